@@ -1,0 +1,3 @@
+// Cases for the layers below: what each text is answered.
+#[cfg(test)]
+mod reading;

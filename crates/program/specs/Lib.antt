@@ -1,0 +1,6 @@
+-- Programs, their rows, and what reading them answers.
+pub mod Numbers
+pub mod Program
+pub mod Rows
+pub mod Reading
+pub mod Says

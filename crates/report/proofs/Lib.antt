@@ -1,0 +1,2 @@
+-- What the loops that write lines go by.
+pub mod Lines

@@ -1,0 +1,2 @@
+-- What is printed, as bytes.
+pub mod Listing

@@ -1,0 +1,2 @@
+-- Steps in words, as bytes.
+pub mod Words
