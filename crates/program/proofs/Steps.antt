@@ -53,8 +53,10 @@ operand-was vars s k e q =
   where
     rest : ℕ → Result Operand Refusal
     rest kind = cond (eqb kind 0) (andThen (literalIn s (k + 1)) (λ z. Ok (Num z))) (andThen (indexIn s (k + 1) (Variable vars)) (λ x. Ok (Var (record { 0 = x }))))
+
     two-numbers : (y z : ℤ) → nth s k ≡ Some y → nth s (k + 1) ≡ Some z → drop k s ≡ y ∷ z ∷ drop (k + 2) s
     two-numbers y z a b = drop-nth s k y a ∙ ap (λ r. y ∷ r) (drop-nth s (k + 1) z b ∙ rw (add-assoc k 1 1) refl)
+
     by-kind : (kind : ℕ) → nth s k ≡ Some (pos kind) → T (leb kind 1) → rest kind ≡ Ok e → OperandWas vars s k e
     by-kind zero a h r =
         let v = then-was (literalIn s (k + 1)) (λ z. Ok (Num z)) e r in
@@ -88,10 +90,11 @@ two-was f vars s t q =
     (parts (u .0) (v .0) (w .0) (index-was s 1 f (u .0) (u .1)) (operand-was vars s 2 (v .0) (v .1)) (operand-was vars s 4 (w .0) (w .1)))
   where
     parts : (x : ℕ) (a b : Operand) → (nth s 1 ≡ Some (pos x)) × T (allows f x) → OperandWas vars s 2 a → OperandWas vars s 4 b → TwoWas f vars s (x, a, b)
-    parts x a b h k l =
-        (drop-nth s 1 (pos x) (h .0) ∙ ap (λ r. pos x ∷ r) (k .0 ∙ ap (λ r. rowV a ++ r) (l .0) ∙ sym (append-assoc (rowV a) (rowV b) (drop 6 s)))
-        , h .1
-        , both-T (okV vars a) (okV vars b) (k .1) (l .1))
+    parts x a b h k l = (
+      drop-nth s 1 (pos x) (h .0) ∙ ap (λ r. pos x ∷ r) (k .0 ∙ ap (λ r. rowV a ++ r) (l .0) ∙ sym (append-assoc (rowV a) (rowV b) (drop 6 s))),
+      h .1,
+      both-T (okV vars a) (okV vars b) (k .1) (l .1),
+    )
 
 -- a row of such a step
 two-row : (c : Counts) (f : Field) (k : ℤ) (x : ℕ) (a b : Operand) (t : List ℤ) → T (allows f x && (okV (c .vars) a && okV (c .vars) b)) → twoIn f (c .vars) (k ∷ pos x ∷ ((rowV a ++ rowV b) ++ t)) ≡ Ok (x, a, b)
@@ -147,10 +150,12 @@ step-was c s i q =
     -- behind the kind, one number that names something
     named : (f : Field) (x : ℕ) → indexIn s 1 f ≡ Ok x → (drop 1 s ≡ pos x ∷ drop 2 s) × T (allows f x)
     named f x r = let a = index-was s 1 f x r in (drop-nth s 1 (pos x) (a .0), a .1)
+
     by-two : (k : ℤ) (f : Field) (t : ℕ × Operand × Operand) → s ≡ k ∷ drop 1 s → twoIn f (c .vars) s ≡ Ok t → (s ≡ k ∷ pos (t .0) ∷ ((rowV (t .1) ++ rowV (t .2)) ++ drop 6 s)) × T (allows f (t .0) && (okV (c .vars) (t .1) && okV (c .vars) (t .2)))
     by-two k f t e r =
         let w = two-was f (c .vars) s t r in
         (e ∙ ap (λ u. k ∷ u) (w .0), both-T (allows f (t .0)) (okV (c .vars) (t .1) && okV (c .vars) (t .2)) (w .1) (w .2))
+
     by-kind : (k : ℕ) → s ≡ pos k ∷ drop 1 s → T (leb k 10) → stepOf c s k ≡ Ok i → Was c s i
     by-kind zero e h r =
         let u = then-was (indexIn s 1 (Variable (c .vars))) (λ x. andThen (operandIn (c .vars) s 2) (λ e. Ok (Set (variable x) e))) i r in
@@ -172,9 +177,10 @@ step-was c s i q =
         let a = named (Variable (c .vars)) (u .0) (u .1) in
         let b = literal-was s 2 (v .0) (v .1) in
         let d = operand-was (c .vars) s 3 (w .0) (w .1) in
-        subst (Was c s) (ok-same _ _ (w .2))
-        (e ∙ ap (λ q. pos 3 ∷ q) (a .0 ∙ ap (λ q. pos (u .0) ∷ q) (drop-nth s 2 (v .0) (b .0) ∙ ap (λ q. v .0 ∷ q) (d .0)))
-        , both-T (ltb (u .0) (c .vars)) (in64 (v .0) && okV (c .vars) (w .0)) (a .1) (both-T (in64 (v .0)) (okV (c .vars) (w .0)) (b .1) (d .1)))
+        subst (Was c s) (ok-same _ _ (w .2)) (
+          e ∙ ap (λ q. pos 3 ∷ q) (a .0 ∙ ap (λ q. pos (u .0) ∷ q) (drop-nth s 2 (v .0) (b .0) ∙ ap (λ q. v .0 ∷ q) (d .0))),
+          both-T (ltb (u .0) (c .vars)) (in64 (v .0) && okV (c .vars) (w .0)) (a .1) (both-T (in64 (v .0)) (okV (c .vars) (w .0)) (b .1) (d .1)),
+        )
     by-kind (suc (suc (suc (suc zero)))) e h r =
         let u = then-was (indexIn s 1 (Variable (c .vars))) (λ x. andThen (indexIn s 2 (Array (c .arrays))) (λ a. andThen (operandIn (c .vars) s 3) (λ e. Ok (Load (variable x) (record { 0 = a }) e)))) i r in
         let v = then-was (indexIn s 2 (Array (c .arrays))) (λ a. andThen (operandIn (c .vars) s 3) (λ e. Ok (Load (variable (u .0)) (record { 0 = a }) e))) i (u .2) in
@@ -182,9 +188,10 @@ step-was c s i q =
         let a = named (Variable (c .vars)) (u .0) (u .1) in
         let b = index-was s 2 (Array (c .arrays)) (v .0) (v .1) in
         let d = operand-was (c .vars) s 3 (w .0) (w .1) in
-        subst (Was c s) (ok-same _ _ (w .2))
-        (e ∙ ap (λ q. pos 4 ∷ q) (a .0 ∙ ap (λ q. pos (u .0) ∷ q) (drop-nth s 2 (pos (v .0)) (b .0) ∙ ap (λ q. pos (v .0) ∷ q) (d .0)))
-        , both-T (ltb (u .0) (c .vars)) (ltb (v .0) (c .arrays) && okV (c .vars) (w .0)) (a .1) (both-T (ltb (v .0) (c .arrays)) (okV (c .vars) (w .0)) (b .1) (d .1)))
+        subst (Was c s) (ok-same _ _ (w .2)) (
+          e ∙ ap (λ q. pos 4 ∷ q) (a .0 ∙ ap (λ q. pos (u .0) ∷ q) (drop-nth s 2 (pos (v .0)) (b .0) ∙ ap (λ q. pos (v .0) ∷ q) (d .0))),
+          both-T (ltb (u .0) (c .vars)) (ltb (v .0) (c .arrays) && okV (c .vars) (w .0)) (a .1) (both-T (ltb (v .0) (c .arrays)) (okV (c .vars) (w .0)) (b .1) (d .1)),
+        )
     by-kind (suc (suc (suc (suc (suc zero))))) e h r =
         let u = then-was (twoIn (Array (c .arrays)) (c .vars) s) (λ t. Ok (Store (record { 0 = t .0 }) (t .1) (t .2))) i r in
         subst (Was c s) (ok-same _ _ (u .2)) (by-two (pos 5) (Array (c .arrays)) (u .0) e (u .1))

@@ -80,10 +80,11 @@ stepsAt-was c (suc n) s at is e =
     subst (StepsWere c s at (suc n)) (ok-same _ _ (v .2)) (joined (u .0) (v .0) (stepAt-was c s at (u .0) (u .1)) (stepsAt-was c n s (at + width (u .0)) (v .0) (v .1)))
   where
     joined : (i : Step) (is : List Step) → (drop at s ≡ rowI i ++ drop (at + width i) s) × T (okI c i) → StepsWere c s (at + width i) n is → StepsWere c s at (suc n) (i ∷ is)
-    joined i is a b =
-        ( ap suc (b .0)
-        , a .0 ∙ ap (λ r. rowI i ++ r) (b .1 ∙ rw (add-assoc at (width i) (widths is)) refl) ∙ sym (append-assoc (rowI i) (rowIs is) (drop (at + (width i + widths is)) s))
-        , both-T (okI c i) (okIs c is) (a .1) (b .2))
+    joined i is a b = (
+      ap suc (b .0),
+      a .0 ∙ ap (λ r. rowI i ++ r) (b .1 ∙ rw (add-assoc at (width i) (widths is)) refl) ∙ sym (append-assoc (rowI i) (rowIs is) (drop (at + (width i + widths is)) s)),
+      both-T (okI c i) (okIs c is) (a .1) (b .2),
+    )
 
 -- lengths
 pub length-nats : (ns : List ℕ) → length (nats ns) ≡ length ns
@@ -109,10 +110,11 @@ lengthsAt-was (suc n) s at ns e =
   where
     joined : (k : ℕ) (ks : List ℕ) → (nth s at ≡ Some (pos k)) × T (leb k 65536) → LengthsWere s (at + 1) n ks → LengthsWere s at (suc n) (k ∷ ks)
     joined k ks a b =
-        let sums : at + 1 + n ≡ at + suc n = omega arith in
-        ( ap suc (b .0)
-        , drop-nth s at (pos k) (a .0) ∙ ap (λ r. pos k ∷ r) (b .1 ∙ ap (λ m. nats ks ++ drop m s) sums)
-        , both-T (leb k 65536) (small ks) (a .1) (b .2))
+        let sums : at + 1 + n ≡ at + suc n = omega arith in (
+          ap suc (b .0),
+          drop-nth s at (pos k) (a .0) ∙ ap (λ r. pos k ∷ r) (b .1 ∙ ap (λ m. nats ks ++ drop m s) sums),
+          both-T (leb k 65536) (small ks) (a .1) (b .2),
+        )
 
 -- what stands before the steps
 abbrev headRow : Head → List ℤ
@@ -145,9 +147,10 @@ head-was s h e =
     joined : (vars n : ℕ) (ns : List ℕ) (steps : ℕ) → (nth s 0 ≡ Some (pos vars)) × T (leb 1 vars && leb vars 64) → (nth s 1 ≡ Some (pos n)) × T (leb n 16) → LengthsWere s 2 n ns → (nth s (2 + n) ≡ Some (pos steps)) × T (leb steps 4096) → HeadWas s (record { vars = vars; arrays = ns; steps = steps })
     joined vars n ns steps a b c d =
         let same = c .0 in
-        let last : 2 + n + 1 ≡ 3 + length ns = omega arith in
-        ( drop-nth s 0 (pos vars) (a .0) ∙ ap (λ r. pos vars ∷ r) (drop-nth s 1 (pos n) (b .0) ∙ ap (λ r. pos n ∷ r) (c .1 ∙ ap (λ r. nats ns ++ r) (drop-nth s (2 + n) (pos steps) (d .0) ∙ ap (λ m. pos steps ∷ drop m s) last) ∙ sym (append-assoc (nats ns) (pos steps ∷ []) (drop (3 + length ns) s))) ∙ ap (λ m. pos m ∷ ((nats ns ++ (pos steps ∷ [])) ++ drop (3 + length ns) s)) (sym same))
-        , (a .1, subst (λ m. T (leb m 16)) (sym same) (b .1), c .2, d .1))
+        let last : 2 + n + 1 ≡ 3 + length ns = omega arith in (
+          drop-nth s 0 (pos vars) (a .0) ∙ ap (λ r. pos vars ∷ r) (drop-nth s 1 (pos n) (b .0) ∙ ap (λ r. pos n ∷ r) (c .1 ∙ ap (λ r. nats ns ++ r) (drop-nth s (2 + n) (pos steps) (d .0) ∙ ap (λ m. pos steps ∷ drop m s) last) ∙ sym (append-assoc (nats ns) (pos steps ∷ []) (drop (3 + length ns) s))) ∙ ap (λ m. pos m ∷ ((nats ns ++ (pos steps ∷ [])) ++ drop (3 + length ns) s)) (sym same)),
+          (a .1, subst (λ m. T (leb m 16)) (sym same) (b .1), c .2, d .1),
+        )
 
 -- programs
 length-headRow : (h : Head) → length (headRow h) ≡ first (headCounts h)
@@ -178,10 +181,10 @@ fine s p is =
 program : (s : List ℤ) (p : Prog) → headRow (head p) ++ rowIs (p .code) ≡ s → Fine p → Program s p
 program s p e ok =
     let v = both (leb 1 (p .vars)) (leb (p .vars) 64) (ok .0 .0) in
-    record
-      { rows = sym (rows-split p) ∙ e
-      ; fine = both-T (leb 1 (p .vars)) _ (v .0) (both-T (leb (p .vars) 64) _ (v .1) (both-T (leb (length (p .arrays)) 16) _ (ok .0 .1) (both-T (small (p .arrays)) _ (ok .0 .2) (both-T (leb (length (p .code)) 4096) _ (ok .0 .3) (ok .1)))))
-      }
+    record {
+      rows = sym (rows-split p) ∙ e;
+      fine = both-T (leb 1 (p .vars)) _ (v .0) (both-T (leb (p .vars) 64) _ (v .1) (both-T (leb (length (p .arrays)) 16) _ (ok .0 .1) (both-T (small (p .arrays)) _ (ok .0 .2) (both-T (leb (length (p .code)) 4096) _ (ok .0 .3) (ok .1)))));
+    }
 
 -- a program's steps stand behind what stands before them
 rest-is : (s : List ℤ) (p : Prog) → Program s p → drop (first (countsOf p)) s ≡ rowIs (p .code) ++ []

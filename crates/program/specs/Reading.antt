@@ -66,8 +66,8 @@ abbrev pub operandIn : ℕ → List ℤ → ℕ → Result Operand Refusal
 operandIn vars s k =
     andThen (indexIn s k OperandKind) (λ kind.
     cond (eqb kind 0)
-      (andThen (literalIn s (k + 1)) (λ z. Ok (Num z)))
-      (andThen (indexIn s (k + 1) (Variable vars)) (λ x. Ok (Var (record { 0 = x })))))
+    (andThen (literalIn s (k + 1)) (λ z. Ok (Num z)))
+    (andThen (indexIn s (k + 1) (Variable vars)) (λ x. Ok (Var (record { 0 = x })))))
 
 -- A number that names something, and two operands.
 abbrev pub twoIn : Field → ℕ → List ℤ → Result (ℕ × Operand × Operand) Refusal

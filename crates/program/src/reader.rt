@@ -45,7 +45,10 @@ fn number(row: &[i64], k: usize, field: Field) -> Result<i64, Refusal>
     ensures { λ r. ⌜ r ≡ numberIn (now (row .entry)) k field ⌝ }
 {
     if k >= row.len() {
-        return Err(Refusal { at: row.len(), reason: Reason::Missing(field) });
+        return Err(Refusal {
+            at: row.len(),
+            reason: Reason::Missing(field),
+        });
     }
     Ok(row[k])
 }
@@ -62,7 +65,10 @@ fn index(row: &[i64], k: usize, field: Field) -> Result<usize, Refusal>
 {
     let z = number(row, k, field)?;
     if z < 0 || !field.allows(z as usize) {
-        return Err(Refusal { at: k, reason: Reason::Outside(field, z) });
+        return Err(Refusal {
+            at: k,
+            reason: Reason::Outside(field, z),
+        });
     }
     Ok(z as usize)
 }
@@ -152,7 +158,10 @@ pub fn step_at(rows: &[i64], counts: Counts, at: usize) -> Result<(Step, usize),
     let start = at.min(rows.len());
     match step_in(&rows[start..], counts) {
         Ok(step) => Ok((step, start + step.width())),
-        Err(f) => Err(Refusal { at: start + f.at, reason: f.reason }),
+        Err(f) => Err(Refusal {
+            at: start + f.at,
+            reason: f.reason,
+        }),
     }
 }
 
@@ -185,7 +194,12 @@ fn header(rows: &[i64]) -> Result<Counts, Refusal>
     let arrays = index(rows, 1, Field::Arrays)?;
     let words = words(rows, arrays)?;
     let steps = index(rows, 2 + arrays, Field::Steps)?;
-    Ok(Counts { vars, arrays, words, steps })
+    Ok(Counts {
+        vars,
+        arrays,
+        words,
+        steps,
+    })
 }
 
 // Where the steps end.
@@ -208,7 +222,10 @@ pub fn read(rows: &[i64]) -> Result<Counts, Refusal>
     let counts = header(rows)?;
     let end = steps_end(rows, counts)?;
     if end != rows.len() {
-        return Err(Refusal { at: end, reason: Reason::Extra });
+        return Err(Refusal {
+            at: end,
+            reason: Reason::Extra,
+        });
     }
     Ok(counts)
 }

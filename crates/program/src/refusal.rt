@@ -122,7 +122,10 @@ pub impl fmt::Display for Refusal as RefusalDisplay {
                 let rule = field.rule();
                 write!(f, "number {number} is {z}, and {rule}")
             }
-            Reason::Extra => write!(f, "number {number} is one too many, as the last step ends before it"),
+            Reason::Extra => write!(
+                f,
+                "number {number} is one too many, as the last step ends before it"
+            ),
         }
     }
 }

@@ -8,6 +8,7 @@ use std::io::Read;
 
 // The most bytes of text, and the most numbers that a program has.
 pub const TEXT: usize = 262144;
+
 pub const NUMBERS: usize = 24595;
 
 // Reads until the buffer is full or nothing more comes, and says how many bytes came.

@@ -99,7 +99,10 @@ pub fn list_text(heap: Global, text: &[u8], rows: &mut [i64]) -> Result<String, 
     };
     match listing(heap, &rows[0..n]) {
         Ok(out) => Ok(out),
-        Err(Unlisted::NoProgram(refusal)) => Err(Error::NoProgram(refusal, text::position(text, refusal.at))),
+        Err(Unlisted::NoProgram(refusal)) => Err(Error::NoProgram(
+            refusal,
+            text::position(text, refusal.at),
+        )),
         Err(Unlisted::Memory) => Err(Error::Memory),
     }
 }

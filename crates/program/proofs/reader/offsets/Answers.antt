@@ -16,11 +16,11 @@ write-offsets-requires c κs =
     let found = c .in-Ok .ensures tt .says in
     let s = c .args .rows .now in
     let k = c .in-Ok .counts in
-    record
-      { few = subst (λ k. k .arrays ≤ 16) (sym (found .2)) (few-arrays s (found .0) (found .1))
-      ; room = omega arith
-      ; steps = ap isOk (subst (λ k. stepsAt k s (first k) (k .steps) ≡ Ok (found .0 .code)) (sym (found .2)) (steps-are s (found .0) (found .1)))
-      }
+    record {
+      few = subst (λ k. k .arrays ≤ 16) (sym (found .2)) (few-arrays s (found .0) (found .1));
+      room = omega arith;
+      steps = ap isOk (subst (λ k. stepsAt k s (first k) (k .steps) ≡ Ok (found .0 .code)) (sym (found .2)) (steps-are s (found .0) (found .1)));
+    }
 
 pub returns-else-work-counts : need.returns-else-work-counts
 returns-else-work-counts c =
@@ -28,7 +28,7 @@ returns-else-work-counts c =
     let s = c .args .rows .now in
     let k = c .in-Ok .counts in
     let steps = subst (λ k. stepsAt k s (first k) (k .steps) ≡ Ok (found .0 .code)) (sym (found .2)) (steps-are s (found .0) (found .1)) in
-    record
-      { says = (found .0, found .1, found .2, c .write-offsets .ensures .written ∙ ap (λ r. offsetsOf (first k) (valueOr r [])) steps, c .write-offsets .ensures .rest)
-      ; parts = parts
-      }
+    record {
+      says = (found .0, found .1, found .2, c .write-offsets .ensures .written ∙ ap (λ r. offsetsOf (first k) (valueOr r [])) steps, c .write-offsets .ensures .rest);
+      parts = parts;
+    }

@@ -26,6 +26,7 @@ loop-k-again c =
     let s = c .args .rows .now in
     let e = c .in-Continue-length .ensures tt in
     let more : c .args .arrays - k ≡ suc (c .args .arrays - (k + 1)) = omega arith in
-    let small : n ≤ 65536 = leb-true n 65536 (T-true _ (index-was s (2 + k) Length n (sym e) .1)) in
-    ( omega (arith, c .loop-k .inv .0)
-    , ap (λ a. andThen (lengthsAt s a (c .args .arrays - (k + 1))) (λ ns. Ok (c .loop-k .sum + n + total ns))) (sym (add-assoc 2 k 1)) ∙ sym (lengths-more s (2 + k) _ _ (c .loop-k .sum) more n e) ∙ c .loop-k .inv .1)
+    let small : n ≤ 65536 = leb-true n 65536 (T-true _ (index-was s (2 + k) Length n (sym e) .1)) in (
+      omega (arith, c .loop-k .inv .0),
+      ap (λ a. andThen (lengthsAt s a (c .args .arrays - (k + 1))) (λ ns. Ok (c .loop-k .sum + n + total ns))) (sym (add-assoc 2 k 1)) ∙ sym (lengths-more s (2 + k) _ _ (c .loop-k .sum) more n e) ∙ c .loop-k .inv .1,
+    )

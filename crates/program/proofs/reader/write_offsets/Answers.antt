@@ -32,8 +32,9 @@ loop-k-again c =
     let go = steps-left (c .args .counts) (c .args .rows .now) at _ _ more _ next (c .in-Ok .ensures tt) (inv .1) in
     let offsets : offsetsOf at (valueOr (stepsAt (c .args .counts) (c .args .rows .now) at (c .args .counts .steps - k)) []) ≡ pos at ∷ left = ap (offsetsOf at) (go .3) ∙ ap (λ a. pos at ∷ offsetsOf a (valueOr (stepsAt (c .args .counts) (c .args .rows .now) next (c .args .counts .steps - (k + 1))) [])) (go .1) in
     let room : k < length w = omega arith in
-    let at-is : toZ w64 at ≡ pos at = toZ-pos w64 at (omega (arith, inv .0)) in
-    ( omega (arith, go .0)
-    , go .2
-    , ap (λ r. r ++ left) (take-more-set w k (toZ w64 at) room ∙ ap (λ z. take k w ++ z ∷ []) at-is) ∙ append-assoc (take k w) (pos at ∷ []) left ∙ ap (λ r. take k w ++ r) (sym offsets) ∙ inv .2
-    , drop-set-lt (k + 1) w k (toZ w64 at) (omega arith) ∙ sym (drop-drop 1 k w) ∙ ap (drop 1) (inv .3) ∙ drop-drop 1 k (c .args .work .now))
+    let at-is : toZ w64 at ≡ pos at = toZ-pos w64 at (omega (arith, inv .0)) in (
+      omega (arith, go .0),
+      go .2,
+      ap (λ r. r ++ left) (take-more-set w k (toZ w64 at) room ∙ ap (λ z. take k w ++ z ∷ []) at-is) ∙ append-assoc (take k w) (pos at ∷ []) left ∙ ap (λ r. take k w ++ r) (sym offsets) ∙ inv .2,
+      drop-set-lt (k + 1) w k (toZ w64 at) (omega arith) ∙ sym (drop-drop 1 k w) ∙ ap (drop 1) (inv .3) ∙ drop-drop 1 k (c .args .work .now),
+    )

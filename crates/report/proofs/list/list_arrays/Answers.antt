@@ -28,9 +28,10 @@ loop-k-again c =
     let more : c .args .arrays - k ≡ suc m = omega arith in
     let left = lengths-left s (2 + k) _ _ more (c .loop-k .inv .0) n (c .in-Ok .ensures tt .exact) in
     let here = add-assoc 2 k 1 in
-    let left-here : valueOr (lengthsAt s (2 + k + 1) m) [] ≡ valueOr (lengthsAt s (2 + (k + 1)) m) [] = ap (λ a. valueOr (lengthsAt s a m) []) here in
-    ( ap (λ a. isOk (lengthsAt s a m)) (sym here) ∙ left .0
-    , ap (λ r. string-bytes (c .write .last .self) ++ arrayLines (k + 1) r) (sym left-here)
-      ∙ line-more out (string-bytes (c .write .last .self)) (arrayLine k n) (arrayLines (k + 1) (valueOr (lengthsAt s (2 + k + 1) m) [])) (c .in-Continue-write .ensures tt .bytes)
-      ∙ ap (λ r. out ++ arrayLines k r) (sym (left .1))
-      ∙ c .loop-k .inv .1)
+    let left-here : valueOr (lengthsAt s (2 + k + 1) m) [] ≡ valueOr (lengthsAt s (2 + (k + 1)) m) [] = ap (λ a. valueOr (lengthsAt s a m) []) here in (
+      ap (λ a. isOk (lengthsAt s a m)) (sym here) ∙ left .0,
+      ap (λ r. string-bytes (c .write .last .self) ++ arrayLines (k + 1) r) (sym left-here)
+          ∙ line-more out (string-bytes (c .write .last .self)) (arrayLine k n) (arrayLines (k + 1) (valueOr (lengthsAt s (2 + k + 1) m) [])) (c .in-Continue-write .ensures tt .bytes)
+          ∙ ap (λ r. out ++ arrayLines k r) (sym (left .1))
+          ∙ c .loop-k .inv .1,
+    )

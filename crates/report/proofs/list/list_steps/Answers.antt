@@ -23,8 +23,9 @@ loop-place-again c =
     let i = c .in-Ok .step in
     let out = string-bytes (c .loop-place .out) in
     let more : c .args .counts .steps - k ≡ suc (c .args .counts .steps - (k + 1)) = omega arith in
-    let left = steps-left (c .args .counts) (c .args .rows .now) (c .loop-place .at) _ _ more i (c .in-Ok .next) (c .in-Ok .ensures tt) (c .loop-place .inv .0) in
-    ( left .2
-    , line-more out (string-bytes (c .write .last .self)) (stepLine k i) _ (c .in-Continue-write .ensures tt .bytes)
-      ∙ ap (λ r. out ++ stepLines k r) (sym (left .3))
-      ∙ c .loop-place .inv .1)
+    let left = steps-left (c .args .counts) (c .args .rows .now) (c .loop-place .at) _ _ more i (c .in-Ok .next) (c .in-Ok .ensures tt) (c .loop-place .inv .0) in (
+      left .2,
+      line-more out (string-bytes (c .write .last .self)) (stepLine k i) _ (c .in-Continue-write .ensures tt .bytes)
+          ∙ ap (λ r. out ++ stepLines k r) (sym (left .3))
+          ∙ c .loop-place .inv .1,
+    )

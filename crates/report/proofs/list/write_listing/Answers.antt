@@ -11,22 +11,23 @@ use Rattle.report.proofs.list.write_listing.Needs as need
 pub list-arrays-requires : need.list-arrays-requires
 list-arrays-requires c κs =
     let found = c .pre in
-    record
-      { few = subst (λ k. k .arrays ≤ 16) (sym (found .2)) (few-arrays (c .args .rows .now) (found .0) (found .1))
-      ; lengths = ap isOk (subst (λ k. lengthsAt (c .args .rows .now) 2 (k .arrays) ≡ Ok (found .0 .arrays)) (sym (found .2)) (lengths-are (c .args .rows .now) (found .0) (found .1)))
-      }
+    record {
+      few = subst (λ k. k .arrays ≤ 16) (sym (found .2)) (few-arrays (c .args .rows .now) (found .0) (found .1));
+      lengths = ap isOk (subst (λ k. lengthsAt (c .args .rows .now) 2 (k .arrays) ≡ Ok (found .0 .arrays)) (sym (found .2)) (lengths-are (c .args .rows .now) (found .0) (found .1)));
+    }
 
 pub list-steps-requires : need.list-steps-requires
 list-steps-requires c κs =
     let found = c .pre in
-    record
-      { few = subst (λ k. k .arrays ≤ 16) (sym (found .2)) (few-arrays (c .args .rows .now) (found .0) (found .1))
-      ; steps = ap isOk (subst (λ k. stepsAt k (c .args .rows .now) (first k) (k .steps) ≡ Ok (found .0 .code)) (sym (found .2)) (steps-are (c .args .rows .now) (found .0) (found .1)))
-      }
+    record {
+      few = subst (λ k. k .arrays ≤ 16) (sym (found .2)) (few-arrays (c .args .rows .now) (found .0) (found .1));
+      steps = ap isOk (subst (λ k. stepsAt k (c .args .rows .now) (first k) (k .steps) ≡ Ok (found .0 .code)) (sym (found .2)) (steps-are (c .args .rows .now) (found .0) (found .1)));
+    }
 
 pub returns : need.returns
 returns c =
-    let found = c .pre in
-    ( found .0
-    , found .1
-    , listing-parts (c .args .rows .now) (found .0) (c .args .counts) (found .1) (found .2) (string-bytes (c .args .out .now)) _ _ _ _ (c .in-Continue-write .ensures tt .bytes) (c .in-Continue-list-arrays .ensures tt) (c .in-Continue-list-steps .ensures tt) (c .in-Continue-write-2 .ensures tt .bytes))
+    let found = c .pre in (
+      found .0,
+      found .1,
+      listing-parts (c .args .rows .now) (found .0) (c .args .counts) (found .1) (found .2) (string-bytes (c .args .out .now)) _ _ _ _ (c .in-Continue-write .ensures tt .bytes) (c .in-Continue-list-arrays .ensures tt) (c .in-Continue-list-steps .ensures tt) (c .in-Continue-write-2 .ensures tt .bytes),
+    )
