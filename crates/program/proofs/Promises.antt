@@ -1,7 +1,7 @@
 -- What the public calls promise, from what their bodies find.
 use mathlib.Core.Path.{_≡_, refl, sym, ap, subst, _∙_}
 use mathlib.Core.Bool.{Bool, true, false, cond}
-use mathlib.Core.List.{List, [], _∷_}
+use mathlib.Core.List.{List}
 use Prim.Native.Nat.{ℕ, _+_, _≤_}
 use lib.IntN.{ℤ}
 use lib.ListN.{length}
@@ -13,7 +13,6 @@ use Rattle.program.specs.declared.step.Step.{Step}
 use Rattle.program.specs.declared.reader.Counts.{Counts}
 use Rattle.program.specs.declared.refusal.Refusal.{Refusal}
 use Rattle.program.specs.Program.{Prog, countsOf, countsBy}
-use Rattle.program.specs.Rows.{Program}
 use Rattle.program.specs.declared.refusal.Reason.the-variants.{Extra}
 use Rattle.program.specs.Reading.{andThen, refused, stepsAt, widths, Head, headIn, headCounts, countsIn, endIn, first, ended, decode}
 use Rattle.program.specs.Says.{Parts, ReadPost}

@@ -2,12 +2,12 @@
 use mathlib.Core.Path.{_≡_, refl, sym, ap, subst, _∙_}
 use mathlib.Core.Bool.{Bool, true, false, cond, _&&_}
 use mathlib.Core.List.{List, [], _∷_, _++_}
-use Prim.Native.Nat.{ℕ, zero, suc, _+_, _≤_, _<_}
+use Prim.Native.Nat.{ℕ, zero, suc, _+_}
 use native.Mathlib.Omega.{arith}
 use native.Mathlib.Numerals.{add-one}
 use lib.IntN.{ℤ, pos, negsuc}
 use lib.ListN.{length, drop}
-use lib.Dec.{T, eqb}
+use lib.Dec.{T}
 use Rattle.std.specs.declared.option.Option.{Option}
 use Rattle.std.specs.declared.option.Option.the-variants.{Some, None}
 use Rattle.std.specs.declared.result.Result.{Result}
@@ -17,8 +17,7 @@ use Rattle.std.proofs.shelf.Lists.{drop-drop, drop-at}
 use Rattle.program.specs.declared.refusal.Field.{Field}
 use Rattle.program.specs.declared.refusal.Field.the-variants.{Number}
 use Rattle.program.specs.declared.refusal.Reason.the-variants.{Outside}
-use Rattle.program.specs.declared.refusal.Refusal.{Refusal}
-use Rattle.program.specs.Numbers.{in64}
+use Rattle.number.specs.Numbers.{in64}
 use Rattle.program.specs.Reading.{andThen, refused, present, numberIn, literalIn, asIndex, indexIn, allows}
 
 pub T-true : (b : Bool) → T b → b ≡ true

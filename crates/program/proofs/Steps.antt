@@ -1,16 +1,16 @@
 -- One step: its row is read as that step, and what is read as a step was its row.
 use mathlib.Core.Path.{_≡_, refl, sym, ap, subst, _∙_}
-use mathlib.Core.Bool.{Bool, true, false, cond, _&&_}
+use mathlib.Core.Bool.{cond, _&&_}
 use mathlib.Core.List.{List, [], _∷_, _++_}
-use Prim.Native.Nat.{ℕ, zero, suc, _+_, _≤_, _<_}
+use Prim.Native.Nat.{ℕ, zero, suc, _+_}
 use native.Mathlib.Omega.{arith}
 use native.Mathlib.Nat.{add-assoc}
-use lib.IntN.{ℤ, pos, negsuc}
+use lib.IntN.{ℤ, pos}
 use lib.ListN.{length, drop}
 use lib.Dec.{T, eqb, leb, ltb}
 use Rattle.std.specs.declared.option.Option.the-variants.{Some}
 use Rattle.std.specs.declared.result.Result.{Result}
-use Rattle.std.specs.declared.result.Result.the-variants.{Ok, Err}
+use Rattle.std.specs.declared.result.Result.the-variants.{Ok}
 use Rattle.std.specs.Finite.{nth}
 use Rattle.std.proofs.shelf.Lists.{append-assoc}
 use Rattle.std.proofs.shelf.Tests.{leb-true}
@@ -22,7 +22,7 @@ use Rattle.program.specs.declared.reader.Counts.{Counts}
 use Rattle.program.specs.declared.refusal.Field.{Field}
 use Rattle.program.specs.declared.refusal.Field.the-variants.{Kind, OperandKind, Variable, Array, Place}
 use Rattle.program.specs.declared.refusal.Refusal.{Refusal}
-use Rattle.program.specs.Numbers.{in64}
+use Rattle.number.specs.Numbers.{in64}
 use Rattle.program.specs.Rows.{rowV, rowI, okV, okI}
 use Rattle.program.specs.Reading.{andThen, literalIn, indexIn, operandIn, twoIn, stepOf, stepIn, width, variable, allows}
 use Rattle.program.proofs.Results.{T-true, both, both-T, ok-same, then-by, then-was, nth-drop, drop-nth, drop-next, index-reads, index-was, literal-reads, literal-was}

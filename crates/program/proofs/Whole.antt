@@ -1,32 +1,29 @@
 -- Whole programs: their rows are read as that program, and what is read as a program was its rows.
 use mathlib.Core.Path.{_≡_, refl, sym, ap, subst, _∙_}
-use mathlib.Core.Bool.{Bool, true, false, cond, _&&_}
+use mathlib.Core.Bool.{_&&_}
 use mathlib.Core.List.{List, [], _∷_, _++_}
-use Prim.Native.Nat.{ℕ, zero, suc, _+_, _≤_, _<_, min}
+use Prim.Native.Nat.{ℕ, zero, suc, _+_, _≤_, min}
 use native.Mathlib.Omega.{arith}
 use native.Mathlib.Nat.{add-assoc, add-zero}
-use native.Mathlib.Numerals.{add-one}
-use lib.IntN.{ℤ, pos, negsuc}
+use lib.IntN.{ℤ, pos}
 use lib.ListN.{length, drop}
-use lib.Dec.{T, eqb, leb, ltb}
+use lib.Dec.{T, eqb, leb}
 use Rattle.std.specs.declared.option.Option.the-variants.{Some}
 use Rattle.std.specs.declared.result.Result.{Result}
 use Rattle.std.specs.declared.result.Result.the-variants.{Ok, Err}
 use Rattle.std.specs.Finite.{nth}
-use Rattle.std.proofs.shelf.Lists.{append-assoc, length-append, length-drop, append-nil, drop-all, drop-drop, drop-at}
+use Rattle.std.proofs.shelf.Lists.{append-assoc, length-append, append-nil, drop-all, drop-drop, drop-at}
 use Rattle.std.proofs.shelf.Tests.{leb-true, eqb-true, eq-eqb}
 use Rattle.program.specs.declared.step.Step.{Step}
 use Rattle.program.specs.declared.step.Step.the-variants.{Set, Add, Sub, Mul, Load, Store, Ask, Show, Go, Less, Stop}
 use Rattle.program.specs.declared.step.Operand.{Operand}
-use Rattle.program.specs.declared.step.Operand.the-variants.{Num, Var}
 use Rattle.program.specs.declared.reader.Counts.{Counts}
-use Rattle.program.specs.declared.refusal.Field.{Field}
 use Rattle.program.specs.declared.refusal.Field.the-variants.{Variables, Arrays, Length, Steps}
 use Rattle.program.specs.declared.refusal.Reason.the-variants.{Extra}
 use Rattle.program.specs.declared.refusal.Refusal.{Refusal}
 use Rattle.program.specs.Program.{Prog, countsOf, countsBy}
 use Rattle.program.specs.Rows.{rowV, rowI, rowIs, nats, rowP, okI, okIs, small, Program}
-use Rattle.program.specs.Reading.{andThen, refused, indexIn, stepIn, width, widths, moved, stepAt, stepsAt, lengthsAt, Head, headIn, headCounts, first, ended, decode, allows, offsetsOf}
+use Rattle.program.specs.Reading.{andThen, indexIn, stepIn, width, widths, moved, stepAt, stepsAt, lengthsAt, Head, headIn, headCounts, first, ended, decode, offsetsOf}
 use Rattle.program.proofs.Results.{T-true, both, both-T, ok-same, then-by, then-was, cond-was, err-not-ok, nth-drop, drop-nth, drop-next, index-reads, index-was}
 use Rattle.program.proofs.Steps.{step-reads, step-was, length-rowV}
 

@@ -12,14 +12,12 @@ use Rattle.std.specs.declared.option.Option.the-variants.{Some, None}
 use Rattle.std.specs.declared.result.Result.{Result}
 use Rattle.std.specs.declared.result.Result.the-variants.{Ok, Err}
 use Rattle.std.specs.Finite.{nth}
-use Rattle.program.specs.declared.step.Step.{Step}
-use Rattle.program.specs.declared.step.Operand.{Operand}
 use Rattle.program.specs.declared.reader.Counts.{Counts}
 use Rattle.program.specs.declared.refusal.Field.{Field}
 use Rattle.program.specs.declared.refusal.Field.the-variants.{Kind, OperandKind, Number, Variable, Array, Place}
 use Rattle.program.specs.declared.refusal.Refusal.{Refusal}
-use Rattle.program.specs.Numbers.{in64}
-use Rattle.program.specs.Reading.{andThen, present, numberIn, literalIn, asIndex, indexIn, operandIn, twoIn, stepOf, stepIn, allows}
+use Rattle.number.specs.Numbers.{in64}
+use Rattle.program.specs.Reading.{andThen, present, numberIn, literalIn, asIndex, indexIn, operandIn, twoIn, stepIn, allows}
 
 abbrev pub Within : {A : Type 0} → ℕ → Result A Refusal → Type 0
 Within n (Ok x) = Unit {0}

@@ -1,5 +1,4 @@
 -- Programs, their rows, and what reading them answers.
-pub mod Numbers
 pub mod Program
 pub mod Rows
 pub mod Reading

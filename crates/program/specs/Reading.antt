@@ -1,7 +1,6 @@
 -- What reading rows answers: the program, or the first number that can't be, with what is wrong with it.
-use mathlib.Core.Path.{_≡_}
-use mathlib.Core.Bool.{Bool, true, false, cond, _&&_}
-use mathlib.Core.List.{List, [], _∷_, _++_}
+use mathlib.Core.Bool.{Bool, true, cond, _&&_}
+use mathlib.Core.List.{List, [], _∷_}
 use Prim.Native.Nat.{ℕ, zero, suc, _+_, min}
 use lib.IntN.{ℤ, pos, negsuc}
 use lib.ListN.{length, drop}
@@ -21,7 +20,7 @@ use Rattle.program.specs.declared.refusal.Field.the-variants.{Variables, Array
 use Rattle.program.specs.declared.refusal.Reason.{Reason}
 use Rattle.program.specs.declared.refusal.Reason.the-variants.{Missing, Outside, Extra}
 use Rattle.program.specs.declared.refusal.Refusal.{Refusal}
-use Rattle.program.specs.Numbers.{in64}
+use Rattle.number.specs.Numbers.{in64}
 use Rattle.program.specs.declared.reader.Counts.{Counts}
 use Rattle.program.specs.Program.{Prog, total, countsBy}
 

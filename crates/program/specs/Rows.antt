@@ -10,7 +10,7 @@ use Rattle.program.specs.declared.step.Step.{Step}
 use Rattle.program.specs.declared.step.Step.the-variants.{Set, Add, Sub, Mul, Load, Store, Ask, Show, Go, Less, Stop}
 use Rattle.program.specs.declared.step.Operand.{Operand}
 use Rattle.program.specs.declared.step.Operand.the-variants.{Num, Var}
-use Rattle.program.specs.Numbers.{in64}
+use Rattle.number.specs.Numbers.{in64}
 use Rattle.program.specs.declared.reader.Counts.{Counts}
 use Rattle.program.specs.Program.{Prog, countsOf}
 

@@ -1,6 +1,5 @@
-use Prim.Native.Nat.{_+_, _*_, _-_, _≤_}
+use Prim.Native.Nat.{_+_, _-_}
 use mathlib.Core.Path.{_≡_}
-use lib.ListN.{length}
 use Rattle.std.specs.declared.result.Result.the-variants.{Ok}
 use Rattle.program.specs.Reading.{andThen, stepsAt, first, widths}
 use Rattle.program.proofs.reader.steps_end.Given as given

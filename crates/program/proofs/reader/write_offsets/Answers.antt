@@ -1,9 +1,9 @@
 use mathlib.Core.Path.{_≡_, ap, sym, _∙_}
 use mathlib.Core.List.{[], _∷_, _++_}
-use Prim.Native.Nat.{suc, _+_, _-_, _<_, _^_}
+use Prim.Native.Nat.{suc, _+_, _-_, _<_}
 use native.Mathlib.Omega.{arith}
 use lib.IntN.{pos}
-use lib.ListN.{length, take, drop, set}
+use lib.ListN.{length, take, drop}
 use mir.Syntax.{w64}
 use mir.Val.{toZ}
 use Rattle.std.specs.Results.{isOk, valueOr}

@@ -1,11 +1,10 @@
 use mathlib.Core.Path.{_≡_, ap, sym, _∙_}
-use mathlib.Core.List.{[], _++_}
+use mathlib.Core.List.{_++_}
 use Prim.Native.Nat.{suc, _+_, _-_}
 use native.Mathlib.Omega.{arith}
 use Rattle.std.specs.Of.String.{string-bytes}
-use Rattle.std.specs.Results.{isOk, valueOr}
+use Rattle.std.specs.Results.{isOk}
 use Rattle.std.proofs.shelf.Tests.{false≢true}
-use Rattle.program.specs.Reading.{stepsAt}
 use Rattle.program.proofs.Loops.{steps-left, steps-stop}
 use Rattle.report.specs.Listing.{stepLine, stepLines}
 use Rattle.report.proofs.Lines.{line-more}

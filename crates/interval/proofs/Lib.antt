@@ -1,0 +1,2 @@
+-- What the code goes by.
+pub mod Pairs

@@ -1,0 +1,8 @@
+// Ranges for variables, and what a step makes of them.
+mod boxes;
+mod range;
+mod transfers;
+
+pub use range::Range;
+pub use transfers::Way;
+pub use transfers::transfer;

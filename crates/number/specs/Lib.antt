@@ -1,0 +1,2 @@
+-- Whole numbers of 64 bits with sign.
+pub mod Numbers
