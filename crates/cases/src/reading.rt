@@ -1,7 +1,7 @@
 // Programs and what is none, each with the listing or the refusal in full.
 
+use message::ErrorDisplay;
 use program::Reason;
-use report::ErrorDisplay;
 use std::alloc::AllocError;
 use std::alloc::Global;
 use std::test::*;

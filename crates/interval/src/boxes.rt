@@ -8,13 +8,16 @@ use crate::range::Range;
 use program::Operand;
 use program::Var;
 
-pub(crate) fn range_at(numbers: &[i64], x: Var) -> Range
+pub fn range_at(numbers: &[i64], x: Var) -> Range
     ensures { λ r. ⌜ r ≡ getD (boxOf (now (numbers .entry))) (x .0) any ⌝ }
 {
     if x.0 >= numbers.len() / 2 {
         return Range::ANY;
     }
-    Range { lo: numbers[2 * x.0], hi: numbers[2 * x.0 + 1] }
+    Range {
+        lo: numbers[2 * x.0],
+        hi: numbers[2 * x.0 + 1],
+    }
 }
 
 pub(crate) fn operand_range(numbers: &[i64], e: Operand) -> Range

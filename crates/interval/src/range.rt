@@ -26,22 +26,28 @@ fn most(a: i64, b: i64) -> i64
 }
 
 impl Range {
-    pub const ANY: Range = Range { lo: i64::MIN, hi: i64::MAX };
+    pub(crate) const ANY: Range = Range {
+        lo: i64::MIN,
+        hi: i64::MAX,
+    };
 
-    pub fn only(z: i64) -> Range
+    pub(crate) fn only(z: i64) -> Range
         ensures { λ r. ⌜ r ≡ record { lo = z; hi = z } ⌝ }
     {
         Range { lo: z, hi: z }
     }
 
-    pub fn cut(self, other: Range) -> Range
+    pub(crate) fn cut(self, other: Range) -> Range
         ensures { λ r. ⌜ r ≡ cut self other ⌝ }
     {
-        Range { lo: most(self.lo, other.lo), hi: least(self.hi, other.hi) }
+        Range {
+            lo: most(self.lo, other.lo),
+            hi: least(self.hi, other.hi),
+        }
     }
 
     // Whether it holds any number.
-    pub fn some_left(self) -> bool
+    pub(crate) fn some_left(self) -> bool
         ensures { λ r. ⌜ r ≡ some-left self ⌝ }
     {
         self.lo <= self.hi
@@ -51,7 +57,10 @@ impl Range {
     pub fn join(self, other: Range) -> Range
         ensures { λ r. ⌜ r ≡ join self other ⌝ }
     {
-        Range { lo: least(self.lo, other.lo), hi: most(self.hi, other.hi) }
+        Range {
+            lo: least(self.lo, other.lo),
+            hi: most(self.hi, other.hi),
+        }
     }
 
     pub fn inside(self, other: Range) -> bool
@@ -70,7 +79,10 @@ impl Range {
     pub(crate) fn minus(self, other: Range) -> Option<Range>
         ensures { λ r. ⌜ r ≡ left (cut (minus self other) any) ⌝ }
     {
-        cut64(Wide::difference(self.lo, other.hi), Wide::difference(self.hi, other.lo))
+        cut64(
+            Wide::difference(self.lo, other.hi),
+            Wide::difference(self.hi, other.lo),
+        )
     }
 
     pub(crate) fn scaled(self, c: i64) -> Option<Range>

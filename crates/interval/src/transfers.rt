@@ -29,7 +29,10 @@ fn places(words: usize) -> Range
     requires { ⌜ words ≤ 65536 ⌝ }
     ensures { λ r. ⌜ r ≡ inside words ⌝ }
 {
-    Range { lo: 0, hi: words as i64 - 1 }
+    Range {
+        lo: 0,
+        hi: words as i64 - 1,
+    }
 }
 
 // What is less than some number of the range, and what is more.
@@ -73,10 +76,24 @@ fn if_not(numbers: &mut [i64], a: Operand, b: Operand) -> bool
 {
     let first = operand_range(numbers, a);
     let second = operand_range(numbers, b);
-    if !narrow(numbers, a, Range { lo: second.lo, hi: i64::MAX }) {
+    if !narrow(
+        numbers,
+        a,
+        Range {
+            lo: second.lo,
+            hi: i64::MAX,
+        },
+    ) {
         return false;
     }
-    narrow(numbers, b, Range { lo: i64::MIN, hi: first.hi })
+    narrow(
+        numbers,
+        b,
+        Range {
+            lo: i64::MIN,
+            hi: first.hi,
+        },
+    )
 }
 
 fn scale(numbers: &mut [i64], x: Var, c: i64, e: Operand) -> bool

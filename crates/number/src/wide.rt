@@ -17,7 +17,10 @@ fn words(z: i128) -> Wide
 {
     let hi = z.div_euclid(18446744073709551616);
     let lo = z.rem_euclid(18446744073709551616);
-    Wide { hi: hi as i64, lo: lo as u64 }
+    Wide {
+        hi: hi as i64,
+        lo: lo as u64,
+    }
 }
 
 fn wide_sum(a: i64, b: i64) -> i128

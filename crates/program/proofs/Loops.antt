@@ -105,7 +105,7 @@ header-is s vars n words steps a b d e =
 
 -- one more step, or a refusal
 module _ (c : Counts) (s : List ℤ) (at : ℕ) where
-  next-is : (i : Step) (next : ℕ) → _≡_ {A = Result (Step × ℕ) Refusal} (Ok (i, next)) (nextAt c s at) → (stepAt c s at ≡ Ok i) × (at + width i ≡ next)
+  pub next-is : (i : Step) (next : ℕ) → _≡_ {A = Result (Step × ℕ) Refusal} (Ok (i, next)) (nextAt c s at) → (stepAt c s at ≡ Ok i) × (at + width i ≡ next)
   next-is i next e =
       let u = then-was (stepAt c s at) (λ i. Ok (i, at + width i)) (i, next) (sym e) in
       let here = ok-same {E = Refusal} (u .0, at + width (u .0)) (i, next) (u .2) in

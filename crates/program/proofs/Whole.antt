@@ -199,6 +199,19 @@ lengths-are s p is = lengthsAt-reads (p .arrays) s 2 _ (fine s p is .0 .2) (ap (
 pub few-arrays : (s : List ℤ) (p : Prog) → Program s p → length (p .arrays) ≤ 16
 few-arrays s p is = leb-true _ 16 (T-true _ (fine s p is .0 .1))
 
+pub few-vars : (s : List ℤ) (p : Prog) → Program s p → p .vars ≤ 64
+few-vars s p is = leb-true _ 64 (T-true _ (both (leb 1 (p .vars)) _ (fine s p is .0 .0) .1))
+
+pub few-steps : (s : List ℤ) (p : Prog) → Program s p → length (p .code) ≤ 4096
+few-steps s p is = leb-true _ 4096 (T-true _ (fine s p is .0 .3))
+
+-- the same at counts that are the program's
+pub steps-found : (s : List ℤ) (p : Prog) (k : Counts) → Program s p → k ≡ countsOf p → stepsAt k s (first k) (k .steps) ≡ Ok (p .code)
+steps-found s p k is e = subst (λ k. stepsAt k s (first k) (k .steps) ≡ Ok (p .code)) (sym e) (steps-are s p is)
+
+pub arrays-found : (s : List ℤ) (p : Prog) (k : Counts) → Program s p → k ≡ countsOf p → k .arrays ≤ 16
+arrays-found s p k is e = subst (λ k. k .arrays ≤ 16) (sym e) (few-arrays s p is)
+
 pub decode-reads : (s : List ℤ) (p : Prog) → Program s p → decode s ≡ Ok p
 decode-reads s p is =
     let c = countsOf p in

@@ -2,4 +2,5 @@
 pub mod Program
 pub mod Rows
 pub mod Reading
+pub mod Runs
 pub mod Says

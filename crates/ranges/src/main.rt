@@ -1,10 +1,8 @@
 // Reads a program and prints its listing.
 
-use report::Error;
-use report::ErrorDisplay;
-use report::ErrorFromAlloc;
+use message::Error;
+use message::ErrorFromAlloc;
 use std::env;
-use std::fs;
 use std::io;
 
 const USAGE: &str = "ranges [--list] [FILE], or ranges --help";
@@ -23,7 +21,8 @@ program.
   --list    the listing, which is also what is printed without it
   --help    this text
 
-What is no program is refused with one line on standard error and status 1.";
+What is no program is refused with one line on standard error and status 1.
+";
 
 // What is asked for on the command line.
 #[derive(Drop)]
@@ -53,52 +52,21 @@ fn asked(rt: &LibcRuntime) -> Result<Call, Error> {
     Ok(Call::List(file))
 }
 
-// The bytes of a file, or of standard input; one more than a text may have at most.
-fn input(rt: &LibcRuntime, file: Option<String>, buffer: &mut [u8]) -> Result<usize, Error> {
-    let Some(name) = file else {
-        return match report::fill(&mut rt.stdin(), buffer) {
-            Ok(n) => Ok(n),
-            Err(e) => Err(Error::Stdin(e)),
-        };
-    };
-    let filled = match fs::open(rt, name.as_str()) {
-        Ok(mut open) => report::fill(&mut open, buffer),
-        Err(e) => Err(e),
-    };
-    match filled {
-        Ok(n) => Ok(n),
-        Err(e) => Err(Error::File(name, e)),
-    }
-}
-
 fn list(rt: &LibcRuntime, file: Option<String>) -> Result<String, Error> {
     let heap = rt.alloc();
     let mut buffer = vec![in heap; 0u8; report::TEXT + 1]?;
     let mut rows = vec![in heap; 0i64; report::NUMBERS]?;
-    let n = input(rt, file, &mut buffer)?;
-    if n > report::TEXT {
-        return Err(Error::TooLong(report::TEXT));
-    }
+    let n = report::read_text(rt, file, &mut buffer)?;
     report::list_text(heap, &buffer[0..n], &mut rows)
 }
 
-fn run(rt: &LibcRuntime) -> Result<(), Error> {
-    let printed = match asked(rt)? {
-        Call::Help => rt.println(HELP),
-        Call::List(file) => rt.print(list(rt, file)?),
-    };
-    match printed {
-        Ok(()) => Ok(()),
-        Err(e) => Err(Error::Stdout(e)),
+fn run(rt: &LibcRuntime) -> Result<String, Error> {
+    match asked(rt)? {
+        Call::Help => Ok(String::from_str(rt.alloc(), HELP)?),
+        Call::List(file) => list(rt, file),
     }
 }
 
 fn main(rt: LibcRuntime) -> io::Result<()> {
-    match run(&rt) {
-        Ok(()) => Ok(()),
-        Err(error) => {
-            eprintln!(rt, "{error}")?;
-            Err(io::Error::from(io::ErrorKind::InvalidInput))
-        }
-    }
+    report::finish(&rt, run(&rt))
 }

@@ -1,2 +1,3 @@
--- What the loops that write lines go by.
+-- What the functions that read texts and write lines go by.
 pub mod Lines
+pub mod Texts

@@ -1,2 +1,3 @@
 -- What is printed, as bytes.
 pub mod Listing
+pub mod Checking

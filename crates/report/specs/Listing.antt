@@ -17,8 +17,8 @@ use Rattle.program.specs.Rows.{Program}
 use Rattle.program.specs.Says.{Refused}
 use Rattle.report.specs.declared.list.Unlisted.{Unlisted}
 use Rattle.report.specs.declared.list.Unlisted.the-variants.{NoProgram, Memory}
-use Rattle.report.specs.declared.error.Error.{Error}
-use Rattle.report.specs.declared.error.Error.the-variants.{Usage, File, Stdin, Stdout, TooLong, Text, NoProgram as NoProgramIn, Memory as OutOfMemory}
+use Rattle.message.specs.declared.Error.{Error}
+use Rattle.message.specs.declared.Error.the-variants.{Usage, File, Stdin, Stdout, TooLong, Text, ProgramText, TableText, Unread, BadTable, NoProgram as NoProgramIn, Memory as OutOfMemory}
 use Rattle.text.specs.Numbers.{reading, placed}
 use Rattle.words.specs.Words.{stepWords}
 
@@ -62,3 +62,7 @@ ListTextSays t room (Err (File name e)) = ⊥
 ListTextSays t room (Err (Stdin e)) = ⊥
 ListTextSays t room (Err (Stdout e)) = ⊥
 ListTextSays t room (Err (TooLong n)) = ⊥
+ListTextSays t room (Err (ProgramText f)) = ⊥
+ListTextSays t room (Err (TableText f)) = ⊥
+ListTextSays t room (Err (Unread f at)) = ⊥
+ListTextSays t room (Err (BadTable c)) = ⊥

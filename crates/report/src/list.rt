@@ -12,7 +12,7 @@ ghost use Rattle.program.specs.Program.{Prog, countsOf};
 ghost use Rattle.program.specs.Rows.{Program};
 ghost use Rattle.program.specs.Reading.{lengthsAt, stepsAt, first};
 ghost use Rattle.report.specs.Listing.{arrayLines, stepLines, listingOf, ListingSays, ListTextSays};
-use crate::error::Error;
+use message::Error;
 use program::Array;
 use program::Counts;
 use program::Refusal;

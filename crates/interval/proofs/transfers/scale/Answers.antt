@@ -1,5 +1,4 @@
 use mathlib.Core.Path.{ap, _∙_}
-use borrow.Author.Needs.{needs}
 use Rattle.std.proofs.shelf.Signed.{toZ-ofZ}
 use mir.Syntax.{w64}
 use Rattle.interval.specs.Ranges.{any, cut, scaled, range}

@@ -1,10 +1,9 @@
 use mathlib.Core.Path.{_≡_, ap, subst, sym}
-use Prim.Native.Nat.{_≤_}
 use Rattle.std.specs.declared.result.Result.the-variants.{Ok}
 use Rattle.std.specs.Of.String.{string-bytes}
 use Rattle.std.specs.Results.{isOk}
-use Rattle.program.specs.Reading.{lengthsAt, stepsAt, first}
-use Rattle.program.proofs.Whole.{few-arrays, lengths-are, steps-are}
+use Rattle.program.specs.Reading.{lengthsAt}
+use Rattle.program.proofs.Whole.{arrays-found, lengths-are, steps-found}
 use Rattle.report.proofs.Lines.{listing-parts}
 use Rattle.report.proofs.list.write_listing.Needs as need
 
@@ -12,7 +11,7 @@ pub list-arrays-requires : need.list-arrays-requires
 list-arrays-requires c κs =
     let found = c .pre in
     record {
-      few = subst (λ k. k .arrays ≤ 16) (sym (found .2)) (few-arrays (c .args .rows .now) (found .0) (found .1));
+      few = arrays-found (c .args .rows .now) (found .0) (c .args .counts) (found .1) (found .2);
       lengths = ap isOk (subst (λ k. lengthsAt (c .args .rows .now) 2 (k .arrays) ≡ Ok (found .0 .arrays)) (sym (found .2)) (lengths-are (c .args .rows .now) (found .0) (found .1)));
     }
 
@@ -20,8 +19,8 @@ pub list-steps-requires : need.list-steps-requires
 list-steps-requires c κs =
     let found = c .pre in
     record {
-      few = subst (λ k. k .arrays ≤ 16) (sym (found .2)) (few-arrays (c .args .rows .now) (found .0) (found .1));
-      steps = ap isOk (subst (λ k. stepsAt k (c .args .rows .now) (first k) (k .steps) ≡ Ok (found .0 .code)) (sym (found .2)) (steps-are (c .args .rows .now) (found .0) (found .1)));
+      few = arrays-found (c .args .rows .now) (found .0) (c .args .counts) (found .1) (found .2);
+      steps = ap isOk (steps-found (c .args .rows .now) (found .0) (c .args .counts) (found .1) (found .2));
     }
 
 pub returns : need.returns
