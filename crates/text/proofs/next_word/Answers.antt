@@ -1,7 +1,7 @@
 use Rattle.std.proofs.Common.{false, sym, ◌∙◌, arith}
 use Rattle.text.proofs.Scans.{gap-all, skip_comment, skip_separator}
 use Rattle.text.proofs.next_word.Goals as goal
-use Rattle.text.proofs.next_word.Goals.{then-comment, else-comment+then-is-separator}
+use Rattle.text.proofs.next_word.Goals.{then-comment, else-comment+then-is_separator}
 
 pub loop-at-preserved : goal.loop-at-preserved
 loop-at-preserved c =
@@ -10,7 +10,7 @@ loop-at-preserved c =
       omega arith,
       elim c.if-comment.branch [
         | then-comment w ↦ skip_comment _ _ _ _ _ h w.if-comment.true w.comment-is c.loop-at.invariant.2
-        | else-comment+then-is-separator w ↦ skip_separator _ _ _ _ _ h w.if-comment.false (sym w.if-is-separator.ensures) w.comment-is c.loop-at.invariant.2
+        | else-comment+then-is_separator w ↦ skip_separator _ _ _ _ _ h w.if-comment.false (sym w.if-is_separator.ensures) w.comment-is c.loop-at.invariant.2
       ],
     )
 

@@ -11,7 +11,7 @@ returns-then-left-eq0 c =
     let at = c.loop-at.at in
     let h = c.loop-at-test.true in
     let first = ap (slice_get (scan between at (drop at text))) (sym c.if-left-eq0.true) ∙ c.loop-at.invariant.2 in
-    ap Some c.position-at.ensures ∙ sym (first_at (position_of text) text at h (c.loop-at.invariant.1 h)) ∙ ap (option_map (λ w. position_of text w.start)) first
+    ap Some c.position_at.ensures ∙ sym (first_at (position_of text) text at h (c.loop-at.invariant.1 h)) ∙ ap (option_map (λ w. position_of text w.start)) first
 
 pub returns : goal.returns
 returns c =

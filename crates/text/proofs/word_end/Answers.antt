@@ -9,14 +9,14 @@ pub loop-at-preserved : goal.loop-at-preserved
 loop-at-preserved c = (
   omega arith,
   omega arith,
-  word_more _ _ _ _ (omega arith) c.loop-at-test.true (sym c.if-not-is-separator.ensures) c.loop-at.invariant.2,
+  word_more _ _ _ _ (omega arith) c.loop-at-test.true (sym c.if-not-is_separator.ensures) c.loop-at.invariant.2,
 )
 
-pub returns-else-not-is-separator : goal.returns-else-not-is-separator
-returns-else-not-is-separator c = record {
+pub returns-else-not-is_separator : goal.returns-else-not-is_separator
+returns-else-not-is_separator c = record {
   within = c.loop-at.invariant.1;
   onward = c.loop-at.invariant.0;
-  words = sym c.loop-at.invariant.2 ∙ inside-separator _ _ _ _ c.loop-at-test.true (sym c.if-not-is-separator.ensures);
+  words = sym c.loop-at.invariant.2 ∙ inside-separator _ _ _ _ c.loop-at-test.true (sym c.if-not-is_separator.ensures);
 }
 
 pub returns-after-loop-at : goal.returns-after-loop-at

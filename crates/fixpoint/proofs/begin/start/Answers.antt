@@ -7,6 +7,6 @@ returns c =
     let k = c.args.counts in
     let zeros = c.fill.ensures.after (λ y h. h) ∙ ap (λ n. replicate n (pos 0)) c.requires in
     record {
-      rows = λ p e. start_rows k p c.fill.new.self e zeros ∙ sym c.set-known.ensures;
-      table = λ p e. start_written k p c.set-known.new.row e (start_rows k p c.fill.new.self e zeros ∙ sym c.set-known.ensures);
+      rows = λ p e. start_rows k p c.fill.new.self e zeros ∙ sym c.set_known.ensures;
+      table = λ p e. start_written k p c.set_known.new.row e (start_rows k p c.fill.new.self e zeros ∙ sym c.set_known.ensures);
     }

@@ -5,7 +5,7 @@ use Rattle.fixpoint.proofs.Moves.{sweeps_more, confirm_says}
 use Rattle.fixpoint.proofs.guess.confirm.Goals as goal
 
 pub loop-counts-init : goal.loop-counts-init
-loop-counts-init c = (omega arith, λ p is e. ap (table_in c.args.counts) c.copy-from-slice.ensures.after)
+loop-counts-init c = (omega arith, λ p is e. ap (table_in c.args.counts) c.copy_from_slice.ensures.after)
 
 pub loop-counts-preserved : goal.loop-counts-preserved
 loop-counts-preserved c =

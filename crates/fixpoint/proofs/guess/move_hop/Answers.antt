@@ -25,8 +25,8 @@ returns-then-not-make-2 c =
     let made = after c.args.words c.args.way c.args.step (at m c.args.n) in
     nothing_moved k to c.args.table.now _ (ap (λ a. moved_at (at m to) made a (at s to)) (sym c.if-not-make-2.ensures) ∙ no_grown (at m to) made (at s to))
 
-pub move-place-requires : goal.move-place-requires
-move-place-requires c = record {
+pub move_place-requires : goal.move_place-requires
+move_place-requires c = record {
   few = c.requires.few;
   long = c.requires.long;
   place = c.requires.there;
@@ -41,4 +41,4 @@ returns c =
     let m = table_in k c.args.guess.now in
     let s = table_in k c.args.table.now in
     let to = c.args.to in
-    subst (λ a. Moved k to a c.args.table.now c.move-place.new.table c.move-place.result) (ap₂ (λ a b. moved_at (at m to) a b (at s to)) c.if-not-make.ensures c.if-not-make-2.ensures) c.move-place.ensures
+    subst (λ a. Moved k to a c.args.table.now c.move_place.new.table c.move_place.result) (ap₂ (λ a b. moved_at (at m to) a b (at s to)) c.if-not-make.ensures c.if-not-make-2.ensures) c.move_place.ensures

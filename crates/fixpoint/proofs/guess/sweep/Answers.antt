@@ -19,14 +19,14 @@ unreachable-requires c =
     let found = c.requires.program in
     walk_never c.args.rows.now c.args.counts c.loop-n.at c.loop-n.n (omega arith) c.loop-n.invariant.0 found.0 found.1 found.2 _ c.in-Err.ensures
 
-pub move-hops-moved-requires : goal.move-hops-moved-requires
-move-hops-moved-requires c =
+pub move_hops-moved-requires : goal.move_hops-moved-requires
+move_hops-moved-requires c =
     let s = c.args.rows.now in
     let k = c.args.counts in
     let found = c.requires.program in
     record {
       few = subst (λ k. k.vars ≤ 64) (sym found.2) (few_vars s found.0 found.1);
-      small = c.words-of-words.ensures.few;
+      small = c.words_of-words.ensures.few;
       long = c.loop-n.auto.table ∙ c.requires.long;
       guess = c.requires.guess;
       made = c.loop-n.auto.made ∙ c.requires.made;
@@ -46,8 +46,8 @@ loop-n-preserved c =
       walk_more s k c.loop-n.at n (omega arith) inv.0 i c.in-Ok.next c.in-Ok.ensures,
       λ p is e.
           let here = walk_step s k c.loop-n.at n (omega arith) inv.0 p is e i c.in-Ok.next c.in-Ok.ensures in
-          let words = c.words-of-words.ensures.words p is (nth-ok_i s p n i is here.0) in
-          ap (sweep_from (confirm_hop p m) (n + 1) (drop (n + 1) p.code)) (c.move-hops-moved.ensures c.loop-n.moved ∙ ap (λ a. move_with a m n i Next (move_with a m n i Jump (record { table = table_in k c.loop-n.table; moved = c.loop-n.moved }))) words)
+          let words = c.words_of-words.ensures.words p is (nth-ok_i s p n i is here.0) in
+          ap (sweep_from (confirm_hop p m) (n + 1) (drop (n + 1) p.code)) (c.move_hops-moved.ensures c.loop-n.moved ∙ ap (λ a. move_with a m n i Next (move_with a m n i Jump (record { table = table_in k c.loop-n.table; moved = c.loop-n.moved }))) words)
           ∙ ap (λ is. sweep_from (confirm_hop p m) n is (record { table = table_in k c.loop-n.table; moved = c.loop-n.moved })) (sym here.1)
           ∙ inv.1 p is e,
     )

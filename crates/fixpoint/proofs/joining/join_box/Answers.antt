@@ -9,13 +9,13 @@ use Rattle.fixpoint.proofs.joining.join_box.Goals as goal
 pub loop-k-preserved : goal.loop-k-preserved
 loop-k-preserved c =
     let b = box_of c.loop-k.numbers in
-    let b' = box_of c.join-range-changed.new.numbers in
+    let b' = box_of c.join_range-changed.new.numbers in
     let made = box_of c.args.made.now in
     let k = c.loop-k.k in
     let l : k < length b = omega (arith, length-box_of c.loop-k.numbers, c.loop-k.auto.numbers, c.requires) in
     let m : k < length made = omega (arith, length-box_of c.args.made.now) in
-    let e : b' ≡ set b k (join (get_or b k any) (get_or made k any)) = c.join-range-changed.ensures.joined ∙ ap (λ q. set b k (join (get_or b k any) q)) c.range-at.ensures in
-    let y = c.join-range-changed.ensures.changed ∙ ap (λ q. not (inside1 q (get_or b k any))) c.range-at.ensures in (
+    let e : b' ≡ set b k (join (get_or b k any) (get_or made k any)) = c.join_range-changed.ensures.joined ∙ ap (λ q. set b k (join (get_or b k any) q)) c.range_at.ensures in
+    let y = c.join_range-changed.ensures.changed ∙ ap (λ q. not (inside1 q (get_or b k any))) c.range_at.ensures in (
       join_more b b' made k l m e ∙ c.loop-k.invariant.0,
       ap (λ y. (c.loop-k.changed || y) || not (covers_box (drop (k + 1) made) (drop (k + 1) b'))) y ∙ covers_more b b' made k l m e c.loop-k.changed ∙ c.loop-k.invariant.1,
     )

@@ -15,13 +15,13 @@ returns c =
     let n = c.args.n in
     let l = c.args.table.now in
     let made = within (box_of c.args.made.now) in
-    let row = c.join-row.new.row in
+    let row = c.join_row.new.row in
     let w = width k.vars in
     let wide : n * w + w - n * w ≡ w = omega arith in
     let was : place_of (take (n * w + w - n * w) (drop (n * w) l)) ≡ at (table_in k l) n = ap (λ j. place_of (take j (drop (n * w) l))) wide ∙ sym (place_at k n l c.requires.long c.requires.place) in
-    let whole : length row ≡ w = c.join-row.auto.row ∙ length-take-le (n * w + w - n * w) (drop (n * w) l) (omega (arith, length-drop (n * w) l, c.requires.there)) ∙ wide in
+    let whole : length row ≡ w = c.join_row.auto.row ∙ length-take-le (n * w + w - n * w) (drop (n * w) l) (omega (arith, length-drop (n * w) l, c.requires.there)) ∙ wide in
     record {
-      table = put_table k n l c.requires.long c.requires.place row whole _ wide ∙ ap (set (table_in k l) n) (c.join-row.ensures.joined ∙ ap (λ a. join_at a made) was);
-      changed = c.join-row.ensures.changed ∙ ap (λ a. not (covers made a)) was;
-      writes = put_writes k n l c.requires.long c.requires.place row whole _ wide c.join-row.ensures.known;
+      table = put_table k n l c.requires.long c.requires.place row whole _ wide ∙ ap (set (table_in k l) n) (c.join_row.ensures.joined ∙ ap (λ a. join_at a made) was);
+      changed = c.join_row.ensures.changed ∙ ap (λ a. not (covers made a)) was;
+      writes = put_writes k n l c.requires.long c.requires.place row whole _ wide c.join_row.ensures.known;
     }

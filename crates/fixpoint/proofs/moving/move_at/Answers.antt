@@ -14,13 +14,13 @@ returns c =
     let k = c.args.counts in
     let n = c.args.n in
     let l = c.args.table.now in
-    let row = c.move-row.new.row in
+    let row = c.move_row.new.row in
     let w = width k.vars in
     let wide : n * w + w - n * w ≡ w = omega arith in
     let was : place_of (take (n * w + w - n * w) (drop (n * w) l)) ≡ at (table_in k l) n = ap (λ j. place_of (take j (drop (n * w) l))) wide ∙ sym (place_at k n l c.requires.long c.requires.place) in
-    let whole : length row ≡ w = c.move-row.auto.row ∙ length-take-le (n * w + w - n * w) (drop (n * w) l) (omega (arith, length-drop (n * w) l, c.requires.there)) ∙ wide in
+    let whole : length row ≡ w = c.move_row.auto.row ∙ length-take-le (n * w + w - n * w) (drop (n * w) l) (omega (arith, length-drop (n * w) l, c.requires.there)) ∙ wide in
     let moved = ap (moved_at (place_of c.args.guess.now) (within (box_of c.args.made.now)) (within (box_of c.args.grown.now))) was in
     record {
-      table = put_table k n l c.requires.long c.requires.place row whole _ wide ∙ ap (set (table_in k l) n) (c.move-row.ensures.moved ∙ moved);
-      moved = c.move-row.ensures.wider ∙ ap₂ wider_at moved was;
+      table = put_table k n l c.requires.long c.requires.place row whole _ wide ∙ ap (set (table_in k l) n) (c.move_row.ensures.moved ∙ moved);
+      moved = c.move_row.ensures.wider ∙ ap₂ wider_at moved was;
     }

@@ -6,24 +6,24 @@ use Rattle.fixpoint.proofs.Places.{row_within}
 use Rattle.fixpoint.proofs.Reaches.{table_more, place_done}
 use Rattle.fixpoint.proofs.reaching.reached.Goals as goal
 
-pub row-of-row-requires : goal.row-of-row-requires
-row-of-row-requires c = record { few = c.requires.few; there = row_within c.args.counts c.loop-n.n c.args.table.now c.requires.long (omega (arith, c.loop-n-test.true)) }
+pub row_of-row-requires : goal.row_of-row-requires
+row_of-row-requires c = record { few = c.requires.few; there = row_within c.args.counts c.loop-n.n c.args.table.now c.requires.long (omega (arith, c.loop-n-test.true)) }
 
-pub row-of-goal-requires : goal.row-of-goal-requires
-row-of-goal-requires c = record { few = c.requires.few; there = row_within c.args.counts c.loop-n.n c.args.guess.now c.requires.guess (omega (arith, c.loop-n-test.true)) }
+pub row_of-goal-requires : goal.row_of-goal-requires
+row_of-goal-requires c = record { few = c.requires.few; there = row_within c.args.counts c.loop-n.n c.args.guess.now c.requires.guess (omega (arith, c.loop-n-test.true)) }
 
-pub row-of-now-requires : goal.row-of-now-requires
-row-of-now-requires c = record { few = c.requires.few; there = row_within c.args.counts c.loop-n.n c.args.moved.now c.requires.moved (omega (arith, c.loop-n-test.true)) }
+pub row_of-now-requires : goal.row_of-now-requires
+row_of-now-requires c = record { few = c.requires.few; there = row_within c.args.counts c.loop-n.n c.args.moved.now c.requires.moved (omega (arith, c.loop-n-test.true)) }
 
-pub returns-then-not-reached-row : goal.returns-then-not-reached-row
-returns-then-not-reached-row c =
+pub returns-then-not-reached_row : goal.returns-then-not-reached_row
+returns-then-not-reached_row c =
     let k = c.args.counts in
     let n = c.loop-n.n in
     let t = table_in k c.args.table.now in
     let m = table_in k c.args.guess.now in
     let s = table_in k c.args.moved.now in
-    ap (λ y. y && reached (drop (n + 1) t) (drop (n + 1) m) (drop (n + 1) s)) (sym c.if-not-reached-row.true)
-    ∙ table_more k n c.args.table.now c.args.guess.now c.args.moved.now _ _ _ c.requires.long c.requires.guess c.requires.moved (omega (arith, c.loop-n-test.true)) c.row-of-row.ensures.row c.row-of-goal.ensures.row c.row-of-now.ensures.row c.reached-row.result c.reached-row.ensures
+    ap (λ y. y && reached (drop (n + 1) t) (drop (n + 1) m) (drop (n + 1) s)) (sym c.if-not-reached_row.true)
+    ∙ table_more k n c.args.table.now c.args.guess.now c.args.moved.now _ _ _ c.requires.long c.requires.guess c.requires.moved (omega (arith, c.loop-n-test.true)) c.row_of-row.ensures.row c.row_of-goal.ensures.row c.row_of-now.ensures.row c.reached_row.result c.reached_row.ensures
     ∙ c.loop-n.invariant
 
 pub loop-n-preserved : goal.loop-n-preserved
@@ -33,8 +33,8 @@ loop-n-preserved c =
     let t = table_in k c.args.table.now in
     let m = table_in k c.args.guess.now in
     let s = table_in k c.args.moved.now in
-    ap (λ y. y && reached (drop (n + 1) t) (drop (n + 1) m) (drop (n + 1) s)) (sym c.if-not-reached-row.false)
-    ∙ table_more k n c.args.table.now c.args.guess.now c.args.moved.now _ _ _ c.requires.long c.requires.guess c.requires.moved (omega (arith, c.loop-n-test.true)) c.row-of-row.ensures.row c.row-of-goal.ensures.row c.row-of-now.ensures.row c.reached-row.result c.reached-row.ensures
+    ap (λ y. y && reached (drop (n + 1) t) (drop (n + 1) m) (drop (n + 1) s)) (sym c.if-not-reached_row.false)
+    ∙ table_more k n c.args.table.now c.args.guess.now c.args.moved.now _ _ _ c.requires.long c.requires.guess c.requires.moved (omega (arith, c.loop-n-test.true)) c.row_of-row.ensures.row c.row_of-goal.ensures.row c.row_of-now.ensures.row c.reached_row.result c.reached_row.ensures
     ∙ c.loop-n.invariant
 
 pub returns : goal.returns

@@ -27,7 +27,7 @@ hops-changed-requires c =
     let found = c.requires.program in
     record {
       few = subst (λ k. k.vars ≤ 64) (sym found.2) (few_vars s found.0 found.1);
-      small = c.words-of-words.ensures.few;
+      small = c.words_of-words.ensures.few;
       long = c.loop-n.auto.table ∙ c.requires.long;
       room = c.loop-n.auto.out ∙ c.requires.room;
       notes = c.loop-n.auto.notes ∙ c.requires.notes;
@@ -47,7 +47,7 @@ loop-n-preserved c =
       walk_more s k c.loop-n.at n (omega arith) inv.0 i c.in-Ok.next c.in-Ok.ensures,
       λ p is e.
           let here = walk_step s k c.loop-n.at n (omega arith) inv.0 p is e i c.in-Ok.next c.in-Ok.ensures in
-          let words = c.words-of-words.ensures.words p is (nth-ok_i s p n i is here.0) in
+          let words = c.words_of-words.ensures.words p is (nth-ok_i s p n i is here.0) in
           ap (sweep_from (round_hop p) (n + 1) (drop (n + 1) p.code)) (made.round c.loop-n.changed ∙ ap (λ a. hop_with a n i Next (hop_with a n i Jump (record { table = table_in k c.loop-n.table; changed = c.loop-n.changed }))) words)
           ∙ ap (λ is. sweep_from (round_hop p) n is (record { table = table_in k c.loop-n.table; changed = c.loop-n.changed })) (sym here.1)
           ∙ inv.1 p is e,

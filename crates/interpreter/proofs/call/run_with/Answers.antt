@@ -9,4 +9,4 @@ pub returns : goal.returns
 returns c p t is rows holds =
     let found = c.requires in
     let counts = found.3 ∙ ap counts_of (one_program c.args.rows.now found.0 p found.2 is) in
-    c.proceed.ensures p t is holds (c.mark-steps.ensures p t is counts (record { long = holds.long; full = holds.full }) rows ∙ ap (λ k. marks_from p t 0 (first k) p.code) counts)
+    c.proceed.ensures p t is holds (c.mark_steps.ensures p t is counts (record { long = holds.long; full = holds.full }) rows ∙ ap (λ k. marks_from p t 0 (first k) p.code) counts)

@@ -8,4 +8,4 @@ returns c s p is e =
     let words = few_words s p is in
     let a = ap (λ k. k.steps) e in
     let b = ap (λ k. k.words) e in
-    omega (arith, steps, words, a, b, c.saturating-add.ensures, c.saturating-add-2.ensures)
+    omega (arith, steps, words, a, b, c.saturating_add.ensures, c.saturating_add-2.ensures)

@@ -27,8 +27,8 @@ loop-left-init c =
           subst (λ n. Going p t c.args.asked.now n (record { place = 0; taken = 0; count = 0 }) c.args.vars.now c.args.memory.now c.args.shown.now 0) (sym none) (starts p t c.args.asked.now c.args.vars.now c.args.memory.now c.args.shown.now c.requires.vars c.requires.memory laid.0 laid.1),
     )
 
-pub mark-at-mark-requires : goal.mark-at-mark-requires
-mark-at-mark-requires c =
+pub mark_at-mark-requires : goal.mark_at-mark-requires
+mark_at-mark-requires c =
     let found = c.requires.ready in
     let g = c.loop-left.invariant.5 found.0 found.1 found.2 found.3 found.5 in
     within_marks c.args.rows.now c.args.marks.now found.0 found.1 found.2 found.5 c.loop-left.cursor.place g.place c.if-cursor-marks.false
@@ -36,10 +36,10 @@ mark-at-mark-requires c =
 pub fetch-step-requires : goal.fetch-step-requires
 fetch-step-requires c =
     let found = c.requires.ready in
-    let z = c.mark-at-mark.result in
-    let read = to_z-of_z w64 z (record { sfits = c.mark-at-mark.type-inv }) in
+    let z = c.mark_at-mark.result in
+    let read = to_z-of_z w64 z (record { sfits = c.mark_at-mark.type-inv }) in
     let g = c.loop-left.invariant.5 found.0 found.1 found.2 found.3 found.5 in
-    begins c.args.rows.now c.args.marks.now found.0 found.1 found.2 found.5 c.loop-left.cursor.place g.place c.if-cursor-marks.false z c.mark-at-mark.ensures c.offset.result (c.offset.ensures ∙ ap offset_of read)
+    begins c.args.rows.now c.args.marks.now found.0 found.1 found.2 found.5 c.loop-left.cursor.place g.place c.if-cursor-marks.false z c.mark_at-mark.ensures c.offset.result (c.offset.ensures ∙ ap offset_of read)
 
 pub counted-tests-requires : goal.counted-tests-requires
 counted-tests-requires c = omega (arith, c.loop-left.invariant.0, c.loop-left.invariant.1, c.ranges.steps.fits)
@@ -55,13 +55,13 @@ perform-requires c =
     let k = c.loop-left.tests in
     let inv = c.loop-left.invariant in
     let i = c.fetch-step.result in
-    let z = c.mark-at-mark.result in
-    let read = to_z-of_z w64 z (record { sfits = c.mark-at-mark.type-inv }) in
+    let z = c.mark_at-mark.result in
+    let read = to_z-of_z w64 z (record { sfits = c.mark_at-mark.type-inv }) in
     let found = c.requires.ready in
     let p = found.0 in
     let t = found.1 in
     let g = inv.5 p t found.2 found.3 found.5 in
-    let u = fetched s c.args.marks.now p t found.2 found.5 cursor.place g.place c.if-cursor-marks.false z c.mark-at-mark.ensures c.offset.result (c.offset.ensures ∙ ap offset_of read) i c.fetch-step.ensures c.is-sure-sure.result (c.is-sure-sure.ensures ∙ ap sure_of read) in
+    let u = fetched s c.args.marks.now p t found.2 found.5 cursor.place g.place c.if-cursor-marks.false z c.mark_at-mark.ensures c.offset.result (c.offset.ensures ∙ ap offset_of read) i c.fetch-step.ensures c.is_sure-sure.result (c.is_sure-sure.ensures ∙ ap sure_of read) in
     record {
       taken = inv.2;
       count = inv.3;
@@ -86,11 +86,11 @@ loop-left-preserved c =
     let k = c.loop-left.tests in
     let inv = c.loop-left.invariant in
     let i = c.fetch-step.result in
-    let z = c.mark-at-mark.result in
-    let read = to_z-of_z w64 z (record { sfits = c.mark-at-mark.type-inv }) in
+    let z = c.mark_at-mark.result in
+    let read = to_z-of_z w64 z (record { sfits = c.mark_at-mark.type-inv }) in
     let found = c.requires.ready in
     let moved = c.in-On.ensures.moves found.0 found.2 in
-    let one = at_most_one c.is-sure-sure.result in
+    let one = at_most_one c.is_sure-sure.result in
     let more : N - (c.loop-left.left - 1) ≡ n + 1 = omega (arith, inv.0, c.if-left-eq0.false) in (
       omega (arith, inv.0),
       omega (arith, inv.0, inv.1, one, more, c.counted-tests.ensures),
@@ -99,8 +99,8 @@ loop-left-preserved c =
       moved.rest c.args.shown.now inv.4,
       λ p t is holds marked.
           let g = inv.5 p t is holds marked in
-          let u = fetched s c.args.marks.now p t is marked cursor.place g.place c.if-cursor-marks.false z c.mark-at-mark.ensures c.offset.result (c.offset.ensures ∙ ap offset_of read) i c.fetch-step.ensures c.is-sure-sure.result (c.is-sure-sure.ensures ∙ ap sure_of read) in
-          let w = went s q p t is holds c.requires.fit n cursor c.loop-left.vars c.loop-left.memory o k g i u.0 _ c.is-sure-sure.result c.counted-tests.result (c.in-On.ensures.acts p is) u.1 c.counted-tests.ensures in
+          let u = fetched s c.args.marks.now p t is marked cursor.place g.place c.if-cursor-marks.false z c.mark_at-mark.ensures c.offset.result (c.offset.ensures ∙ ap offset_of read) i c.fetch-step.ensures c.is_sure-sure.result (c.is_sure-sure.ensures ∙ ap sure_of read) in
+          let w = went s q p t is holds c.requires.fit n cursor c.loop-left.vars c.loop-left.memory o k g i u.0 _ c.is_sure-sure.result c.counted-tests.result (c.in-On.ensures.acts p is) u.1 c.counted-tests.ensures in
           subst (λ n. Going p t q n c.in-On.next c.perform.new.vars c.perform.new.memory c.perform.new.shown c.counted-tests.result) (sym more) (record { runs = w.0; tests = w.1; place = (c.in-On.ensures.moves p is).place }),
     )
 
@@ -131,11 +131,11 @@ returns-in-Stopped c p t is holds marked =
     let k = c.loop-left.tests in
     let inv = c.loop-left.invariant in
     let i = c.fetch-step.result in
-    let z = c.mark-at-mark.result in
-    let read = to_z-of_z w64 z (record { sfits = c.mark-at-mark.type-inv }) in
+    let z = c.mark_at-mark.result in
+    let read = to_z-of_z w64 z (record { sfits = c.mark_at-mark.type-inv }) in
     let g = inv.5 p t is holds marked in
-    let u = fetched s c.args.marks.now p t is marked cursor.place g.place c.if-cursor-marks.false z c.mark-at-mark.ensures c.offset.result (c.offset.ensures ∙ ap offset_of read) i c.fetch-step.ensures c.is-sure-sure.result (c.is-sure-sure.ensures ∙ ap sure_of read) in
-    let w = went s q p t is holds c.requires.fit n cursor c.loop-left.vars c.loop-left.memory o k g i u.0 _ c.is-sure-sure.result c.counted-tests.result (c.in-Stopped.ensures.acts p is) u.1 c.counted-tests.ensures in
+    let u = fetched s c.args.marks.now p t is marked cursor.place g.place c.if-cursor-marks.false z c.mark_at-mark.ensures c.offset.result (c.offset.ensures ∙ ap offset_of read) i c.fetch-step.ensures c.is_sure-sure.result (c.is_sure-sure.ensures ∙ ap sure_of read) in
+    let w = went s q p t is holds c.requires.fit n cursor c.loop-left.vars c.loop-left.memory o k g i u.0 _ c.is_sure-sure.result c.counted-tests.result (c.in-Stopped.ensures.acts p is) u.1 c.counted-tests.ensures in
     let same = c.in-Stopped.ensures.moves p is in
     subst (λ o'. Ends p t q N c.args.shown.now o' (Stopped cursor.count c.counted-tests.result)) (sym same) (stops p t q N c.args.shown.now o cursor.count c.counted-tests.result (n + 1) _ (omega (arith, inv.0, c.if-left-eq0.false)) w.0 w.1 refl inv.3 inv.4)
 
@@ -150,11 +150,11 @@ returns-in-Failed c p t is holds marked =
     let k = c.loop-left.tests in
     let inv = c.loop-left.invariant in
     let i = c.fetch-step.result in
-    let z = c.mark-at-mark.result in
-    let read = to_z-of_z w64 z (record { sfits = c.mark-at-mark.type-inv }) in
+    let z = c.mark_at-mark.result in
+    let read = to_z-of_z w64 z (record { sfits = c.mark_at-mark.type-inv }) in
     let g = inv.5 p t is holds marked in
-    let u = fetched s c.args.marks.now p t is marked cursor.place g.place c.if-cursor-marks.false z c.mark-at-mark.ensures c.offset.result (c.offset.ensures ∙ ap offset_of read) i c.fetch-step.ensures c.is-sure-sure.result (c.is-sure-sure.ensures ∙ ap sure_of read) in
-    let w = went s q p t is holds c.requires.fit n cursor c.loop-left.vars c.loop-left.memory o k g i u.0 _ c.is-sure-sure.result c.counted-tests.result (c.in-Failed.ensures.acts p is) u.1 c.counted-tests.ensures in
+    let u = fetched s c.args.marks.now p t is marked cursor.place g.place c.if-cursor-marks.false z c.mark_at-mark.ensures c.offset.result (c.offset.ensures ∙ ap offset_of read) i c.fetch-step.ensures c.is_sure-sure.result (c.is_sure-sure.ensures ∙ ap sure_of read) in
+    let w = went s q p t is holds c.requires.fit n cursor c.loop-left.vars c.loop-left.memory o k g i u.0 _ c.is_sure-sure.result c.counted-tests.result (c.in-Failed.ensures.acts p is) u.1 c.counted-tests.ensures in
     let same = c.in-Failed.ensures.moves p is in
     subst (λ o'. Ends p t q N c.args.shown.now o' (Failed cursor.place cursor.count c.counted-tests.result)) (sym same) (failed p t q N c.args.shown.now o cursor.count c.counted-tests.result (n + 1) cursor.place _ (omega (arith, inv.0, c.if-left-eq0.false)) w.0 w.1 refl inv.3 inv.4)
 
@@ -169,10 +169,10 @@ returns-in-Full c p t is holds marked =
     let k = c.loop-left.tests in
     let inv = c.loop-left.invariant in
     let i = c.fetch-step.result in
-    let z = c.mark-at-mark.result in
-    let read = to_z-of_z w64 z (record { sfits = c.mark-at-mark.type-inv }) in
+    let z = c.mark_at-mark.result in
+    let read = to_z-of_z w64 z (record { sfits = c.mark_at-mark.type-inv }) in
     let g = inv.5 p t is holds marked in
-    let u = fetched s c.args.marks.now p t is marked cursor.place g.place c.if-cursor-marks.false z c.mark-at-mark.ensures c.offset.result (c.offset.ensures ∙ ap offset_of read) i c.fetch-step.ensures c.is-sure-sure.result (c.is-sure-sure.ensures ∙ ap sure_of read) in
-    let w = went s q p t is holds c.requires.fit n cursor c.loop-left.vars c.loop-left.memory o k g i u.0 _ c.is-sure-sure.result c.counted-tests.result (c.in-Full.ensures.acts p is).1 u.1 c.counted-tests.ensures in
+    let u = fetched s c.args.marks.now p t is marked cursor.place g.place c.if-cursor-marks.false z c.mark_at-mark.ensures c.offset.result (c.offset.ensures ∙ ap offset_of read) i c.fetch-step.ensures c.is_sure-sure.result (c.is_sure-sure.ensures ∙ ap sure_of read) in
+    let w = went s q p t is holds c.requires.fit n cursor c.loop-left.vars c.loop-left.memory o k g i u.0 _ c.is_sure-sure.result c.counted-tests.result (c.in-Full.ensures.acts p is).1 u.1 c.counted-tests.ensures in
     let over = c.in-Full.ensures.acts p is in
     (n + 1, over.0, omega (arith, inv.0, c.if-left-eq0.false), w.0, omega (arith, over.2, c.loop-left.auto.shown))

@@ -21,8 +21,8 @@ unreachable-requires c =
     let k = c.loop-k.k in
     err_not_ok _ _ (c.in-Err.ensures.length found.0 (get_or found.0.arrays k 0) found.1 (slice_get-get_or found.0.arrays k 0 (omega (arith, found.2))))
 
-pub overflow-cast-starts : goal.overflow-cast-starts
-overflow-cast-starts c =
+pub overflow_cast-starts : goal.overflow_cast-starts
+overflow_cast-starts c =
     let found = c.requires.program in
     let few = few_arrays c.args.rows.now found.0 found.1 in
     let most : c.loop-k.at < 2 ^ 63 = omega (arith, c.loop-k.invariant.0, found.2, few) in

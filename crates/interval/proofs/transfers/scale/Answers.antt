@@ -6,5 +6,5 @@ use Rattle.interval.proofs.transfers.scale.Goals as goal
 
 pub returns : goal.returns
 returns c =
-    c.hold-left.ensures (cut (scaled c.args.c (range (box_of c.args.numbers.now) c.args.e)) any)
-    (c.scaled-r.ensures ∙ ap (λ z. left (cut (scaled z c.operand-range.result) any)) (to_z-of_z w64 c.args.c c.ranges.c) ∙ ap (λ r. left (cut (scaled c.args.c r) any)) c.operand-range.ensures)
+    c.hold_left.ensures (cut (scaled c.args.c (range (box_of c.args.numbers.now) c.args.e)) any)
+    (c.scaled-r.ensures ∙ ap (λ z. left (cut (scaled z c.operand_range.result) any)) (to_z-of_z w64 c.args.c c.ranges.c) ∙ ap (λ r. left (cut (scaled c.args.c r) any)) c.operand_range.ensures)

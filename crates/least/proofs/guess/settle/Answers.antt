@@ -9,7 +9,7 @@ returns-then-tried c p is e =
     let k = c.args.counts in
     let t = table_in k c.args.table.now in
     let m = table_in k c.lower.new.guess in
-    subst (Tried p t m true) (sym c.saturating-add-sweeps-in-loop.ensures) (tried_yes p t m c.saturating-add-sweeps.result c.confirm-tried.result (c.confirm-tried.ensures.says p is e) c.if-tried.true)
+    subst (Tried p t m true) (sym c.saturating_add-sweeps-in-loop.ensures) (tried_yes p t m c.saturating_add-sweeps.result c.confirm-tried.result (c.confirm-tried.ensures.says p is e) c.if-tried.true)
 
 pub returns-after-loop : goal.returns-after-loop
 returns-after-loop c p is e = tried_no p _ _ _

@@ -1,8 +1,8 @@
 use Rattle.fixpoint.proofs.Places.{row_within}
 use Rattle.least.proofs.lowering.lower_hop.Goals as goal
 
-pub lower-place-requires : goal.lower-place-requires
-lower-place-requires c = record {
+pub lower_place-requires : goal.lower_place-requires
+lower_place-requires c = record {
   few = c.requires.few;
   guess = row_within c.args.counts c.args.to c.args.guess.now c.requires.guess c.requires.there;
   table = row_within c.args.counts c.args.to c.args.table.now c.requires.table c.requires.there;

@@ -2,13 +2,13 @@ use Rattle.std.proofs.Common.{◌∙◌}
 use Rattle.table.proofs.Steps.{target_there, step_fine}
 use Rattle.least.proofs.lowering.lower_sweep.Goals as goal
 
-pub lower-hops-changed-requires : goal.lower-hops-changed-requires
-lower-hops-changed-requires c =
+pub lower_hops-changed-requires : goal.lower_hops-changed-requires
+lower_hops-changed-requires c =
     let k = c.args.counts in
     record {
       few = c.requires.few;
       short = c.requires.short;
-      small = c.words-of-words.ensures.few;
+      small = c.words_of-words.ensures.few;
       guess = c.loop-n.auto.guess ∙ c.requires.guess;
       table = c.requires.table;
       notes = c.requires.notes;

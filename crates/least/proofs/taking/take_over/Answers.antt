@@ -14,8 +14,8 @@ loop-n-preserved c =
     let t = table_in k c.args.table.now in
     let m = table_in k c.args.guess.now in
     let l : n < length t = omega (arith, length-table_of k.vars 0 c.args.table.now (k.steps + 1), c.loop-n-test.true) in (
-      λ o. mixed_more n m t (table_in k c.loop-n.table) _ o.long l (o.contains n) (c.loop-n.invariant.0 o) c.take-place.ensures.taken,
-      λ w. c.take-place.ensures.writes (c.loop-n.invariant.1 w),
+      λ o. mixed_more n m t (table_in k c.loop-n.table) _ o.long l (o.contains n) (c.loop-n.invariant.0 o) c.take_place.ensures.taken,
+      λ w. c.take_place.ensures.writes (c.loop-n.invariant.1 w),
     )
 
 pub returns : goal.returns

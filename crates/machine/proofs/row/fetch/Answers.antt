@@ -6,14 +6,14 @@ use Rattle.machine.proofs.row.fetch.Goals as goal
 pub offset-bounds-rows-at : goal.offset-bounds-rows-at
 offset-bounds-rows-at c = omega (arith, row_room c.args.rows.now c.args.at c.requires.0 c.requires.1 c.requires.2)
 
-pub slice-bounds-first-step-count : goal.slice-bounds-first-step-count
-slice-bounds-first-step-count c = omega (arith, row_room c.args.rows.now c.args.at c.requires.0 c.requires.1 c.requires.2)
+pub slice-bounds-first_step-count : goal.slice-bounds-first_step-count
+slice-bounds-first_step-count c = omega (arith, row_room c.args.rows.now c.args.at c.requires.0 c.requires.1 c.requires.2)
 
-pub slice-bounds-first-step-start : goal.slice-bounds-first-step-start
-slice-bounds-first-step-start c = search (rules, row_room c.args.rows.now c.args.at c.requires.0 c.requires.1 c.requires.2)
+pub slice-bounds-first_step-start : goal.slice-bounds-first_step-start
+slice-bounds-first_step-start c = search (rules, row_room c.args.rows.now c.args.at c.requires.0 c.requires.1 c.requires.2)
 
-pub first-step-requires : goal.first-step-requires
-first-step-requires c = (c.requires.0, c.requires.1, take_rest c.args.rows.now c.args.at ∙ c.requires.2)
+pub first_step-requires : goal.first_step-requires
+first_step-requires c = (c.requires.0, c.requires.1, take_rest c.args.rows.now c.args.at ∙ c.requires.2)
 
 pub returns : goal.returns
-returns c i rest h = c.first-step.ensures i rest (take_rest c.args.rows.now c.args.at ∙ h)
+returns c i rest h = c.first_step.ensures i rest (take_rest c.args.rows.now c.args.at ∙ h)

@@ -10,8 +10,8 @@ offset-bounds-row-k c = omega (arith, here c.args.row.now c.args.k (pos c.requir
 pub bounds-row-k : goal.bounds-row-k
 bounds-row-k c = (here c.args.row.now c.args.k _ _ c.requires.2).0
 
-pub overflow-cast-result : goal.overflow-cast-result
-overflow-cast-result c =
+pub overflow_cast-result : goal.overflow_cast-result
+overflow_cast-result c =
     let w = here c.args.row.now c.args.k _ _ c.requires.2 in
     let fits : SFits w64 (get_or c.args.row.now c.args.k (pos 0)) = search rules in
     let small = (subst (SFits w64) w.1 fits).sfits in

@@ -10,8 +10,8 @@ offset-bounds-row-k c = omega (arith, operand_room c.args.row.now c.args.k c.req
 pub bounds-row-k : goal.bounds-row-k
 bounds-row-k c = omega (arith, operand_room c.args.row.now c.args.k c.requires.0 c.requires.1 c.requires.2)
 
-pub overflow-add-result : goal.overflow-add-result
-overflow-add-result c = omega (arith, operand_room c.args.row.now c.args.k c.requires.0 c.requires.1 c.requires.2)
+pub overflow_add-result : goal.overflow_add-result
+overflow_add-result c = omega (arith, operand_room c.args.row.now c.args.k c.requires.0 c.requires.1 c.requires.2)
 
 pub offset-bounds-row-k-then-row-k-eq0 : goal.offset-bounds-row-k-then-row-k-eq0
 offset-bounds-row-k-then-row-k-eq0 c = omega (arith, operand_room c.args.row.now c.args.k c.requires.0 c.requires.1 c.requires.2)
@@ -27,8 +27,8 @@ returns-then-row-k-eq0 c e rest h =
     let kind : get_or s k (pos 0) ≡ pos 0 = search rules in
     ap Num (to_z-of_z w64 _ fits) ∙ num_here s k e rest h kind
 
-pub overflow-add-k : goal.overflow-add-k
-overflow-add-k c = omega (arith, operand_room c.args.row.now c.args.k c.requires.0 c.requires.1 c.requires.2)
+pub overflow_add-k : goal.overflow_add-k
+overflow_add-k c = omega (arith, operand_room c.args.row.now c.args.k c.requires.0 c.requires.1 c.requires.2)
 
 pub index-requires : goal.index-requires
 index-requires c =

@@ -6,8 +6,8 @@ use Rattle.program.proofs.Promises.{parts}
 use Rattle.program.proofs.reader.offsets.Goals as goal
 
 -- what `read` found, at its counts
-pub write-offsets-requires : goal.write-offsets-requires
-write-offsets-requires c =
+pub write_offsets-requires : goal.write_offsets-requires
+write_offsets-requires c =
     let found = c.in-Ok.ensures.says in
     let s = c.args.rows.now in
     let k = c.in-Ok.counts in
@@ -24,6 +24,6 @@ returns-else-work-counts c =
     let k = c.in-Ok.counts in
     let steps = steps_found s found.0 k found.1 found.2 in
     record {
-      says = (found.0, found.1, found.2, c.write-offsets.ensures.written ∙ ap (λ r. offsets_of (first k) (result_unwrap_or r [])) steps, c.write-offsets.ensures.rest);
+      says = (found.0, found.1, found.2, c.write_offsets.ensures.written ∙ ap (λ r. offsets_of (first k) (result_unwrap_or r [])) steps, c.write_offsets.ensures.rest);
       parts = parts;
     }

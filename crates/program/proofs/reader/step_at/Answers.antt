@@ -3,8 +3,8 @@ use Rattle.program.specs.Reading.{and_then, width}
 use Rattle.program.proofs.Loops.{step_found, step-refused, step_at_ends, width_some}
 use Rattle.program.proofs.reader.step_at.Goals as goal
 
-pub overflow-add-result-in-Err : goal.overflow-add-result-in-Err
-overflow-add-result-in-Err c =
+pub overflow_add-result-in-Err : goal.overflow_add-result-in-Err
+overflow_add-result-in-Err c =
     let w = step-refused c.args.rows.now c.args.at c.min-start.result c.min-start.ensures c.args.counts c.in-Err.f c.in-Err.ensures in
     omega (arith, w.1)
 

@@ -10,8 +10,8 @@ returns-in-Err-check c =
     c.in-Err-check.ensures.says
     c.explained.ensures
 
-pub returns-in-Ok-from-str : goal.returns-in-Ok-from-str
-returns-in-Ok-from-str c =
+pub returns-in-Ok-from_str : goal.returns-in-Ok-from_str
+returns-in-Ok-from_str c =
     let found = c.in-Ok-check.ensures.says in (
       take (c.in-Ok.n - 0) c.read.new.numbers,
       take (c.in-Ok-read.m - 0) c.read-2.new.numbers,
@@ -22,5 +22,5 @@ returns-in-Ok-from-str c =
       found.2,
       found.4,
       found.5,
-      c.in-Ok-from-str.ensures.made,
+      c.in-Ok-from_str.ensures.made,
     )

@@ -4,16 +4,16 @@ use Rattle.program.proofs.Whole.{arrays_found, lengths_are, steps_found}
 use Rattle.report.proofs.Lines.{listing_parts}
 use Rattle.report.proofs.list.write_listing.Goals as goal
 
-pub list-arrays-requires : goal.list-arrays-requires
-list-arrays-requires c =
+pub list_arrays-requires : goal.list_arrays-requires
+list_arrays-requires c =
     let found = c.requires in
     record {
       few = arrays_found c.args.rows.now found.0 c.args.counts found.1 found.2;
       lengths = ap is_ok (subst (λ k. lengths_at c.args.rows.now 2 k.arrays ≡ Ok found.0.arrays) (sym found.2) (lengths_are c.args.rows.now found.0 found.1));
     }
 
-pub list-steps-requires : goal.list-steps-requires
-list-steps-requires c =
+pub list_steps-requires : goal.list_steps-requires
+list_steps-requires c =
     let found = c.requires in
     record {
       few = arrays_found c.args.rows.now found.0 c.args.counts found.1 found.2;
@@ -25,5 +25,5 @@ returns c =
     let found = c.requires in (
       found.0,
       found.1,
-      listing_parts c.args.rows.now found.0 c.args.counts found.1 found.2 (string_bytes c.args.out.now) _ _ _ _ c.in-ok-write.ensures.bytes c.in-ok-list-arrays.ensures c.in-ok-list-steps.ensures c.in-ok-write-2.ensures.bytes,
+      listing_parts c.args.rows.now found.0 c.args.counts found.1 found.2 (string_bytes c.args.out.now) _ _ _ _ c.in_ok-write.ensures.bytes c.in_ok-list_arrays.ensures c.in_ok-list_steps.ensures c.in_ok-write-2.ensures.bytes,
     )

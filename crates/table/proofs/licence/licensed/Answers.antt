@@ -20,18 +20,18 @@ returns-then-vars-gt64 c p t is same f e here =
       | then-vars-gt64-via-else-vars-gt64+else-n-ge4096+then-table-n w ↦ omega (arith, w.if-table-n.true, fits.2)
     ])
 
-pub returns-then-not-is-known : goal.returns-then-not-is-known
-returns-then-not-is-known c p t is same f e here =
-    let row = c.row-of-row.result.now in
+pub returns-then-not-is_known : goal.returns-then-not-is_known
+returns-then-not-is_known c p t is same f e here =
+    let row = c.row_of-row.result.now in
     row_licensed c.args.rows.now c.args.table.now p t c.args.vars c.args.place.0 c.args.step is same f e here never
-    (sym (ap place_of c.row-of-row.ensures.row) ∙ place_never row (omega (arith, c.row-of-row.ensures.long)) (sym c.is-known.ensures ∙ c.if-not-is-known.true))
+    (sym (ap place_of c.row_of-row.ensures.row) ∙ place_never row (omega (arith, c.row_of-row.ensures.long)) (sym c.is_known.ensures ∙ c.if-not-is_known.true))
 
 pub returns : goal.returns
 returns c p t is same f e here =
-    let row = c.row-of-row.result.now in
+    let row = c.row_of-row.result.now in
     let step = c.args.step in
     c.sure.ensures
-    ∙ ap (λ s. sure c.words-of.result (box_of s) step) (take_rest row 1)
-    ∙ ap (λ n. sure n (box_of (drop 1 row)) step) (c.words-of.ensures.words p is (nth-ok_i c.args.rows.now p c.args.place.0 step is here))
+    ∙ ap (λ s. sure c.words_of.result (box_of s) step) (take_rest row 1)
+    ∙ ap (λ n. sure n (box_of (drop 1 row)) step) (c.words_of.ensures.words p is (nth-ok_i c.args.rows.now p c.args.place.0 step is here))
     ∙ row_licensed c.args.rows.now c.args.table.now p t c.args.vars c.args.place.0 step is same f e here (within (box_of (drop 1 row)))
-    (sym (ap place_of c.row-of-row.ensures.row) ∙ place_known row (omega (arith, c.row-of-row.ensures.long)) (sym c.is-known.ensures ∙ c.if-not-is-known.false))
+    (sym (ap place_of c.row_of-row.ensures.row) ∙ place_known row (omega (arith, c.row_of-row.ensures.long)) (sym c.is_known.ensures ∙ c.if-not-is_known.false))

@@ -28,8 +28,8 @@ unreachable-requires c =
     let more : k.steps - c.loop-n.n ≡ suc (k.steps - (c.loop-n.n + 1)) = omega (arith, c.loop-n.invariant.0) in
     false≢true (ap is_ok (sym (steps_stop k c.args.rows.now c.loop-n.at _ _ more _ c.in-Err.ensures)) ∙ c.loop-n.invariant.1)
 
-pub step-fault-fault-requires : goal.step-fault-fault-requires
-step-fault-fault-requires c =
+pub step_fault-fault-requires : goal.step_fault-fault-requires
+step_fault-fault-requires c =
     let s = c.args.rows.now in
     let k = c.args.counts in
     let n = c.loop-n.n in
@@ -39,20 +39,20 @@ step-fault-fault-requires c =
     let to = target_there k c.in-Ok.step (step_fine s k c.loop-n.at c.in-Ok.step c.in-Ok.next c.in-Ok.ensures) in
     record {
       few = subst (λ k. k.vars ≤ 64) (sym found.2) (few_vars s found.0 found.1);
-      small = c.words-of-words.ensures.few;
+      small = c.words_of-words.ensures.few;
       room = omega (arith, c.loop-n.auto.out, c.requires.room);
       here = row_there n (k.steps + 1) w _ (omega (arith, c.loop-n.invariant.0)) all;
       next = row_there (n + 1) (k.steps + 1) w _ (omega (arith, c.loop-n.invariant.0)) all;
       there = row_there (target c.in-Ok.step) (k.steps + 1) w _ (omega (arith, to)) all;
     }
 
-pub returns-then-is-some : goal.returns-then-is-some
-returns-then-is-some c =
+pub returns-then-is_some : goal.returns-then-is_some
+returns-then-is_some c =
     let s = c.args.rows.now in
     let k = c.args.counts in
     let n = c.loop-n.n in
     let more : k.steps - n ≡ suc (k.steps - (n + 1)) = omega (arith, c.loop-n.invariant.0) in
-    λ p is e. sym (or_some c.step-fault-fault.result _ (sym c.is-some.ensures ∙ c.if-is-some.true)) ∙ fault_more s k c.loop-n.at c.in-Ok.step c.in-Ok.next c.in-Ok.ensures _ _ more c.loop-n.invariant.1 c.args.table.now n _ c.step-fault-fault.result c.words-of-words.ensures.words c.step-fault-fault.ensures p is e ∙ c.loop-n.invariant.2 p is e
+    λ p is e. sym (or_some c.step_fault-fault.result _ (sym c.is_some.ensures ∙ c.if-is_some.true)) ∙ fault_more s k c.loop-n.at c.in-Ok.step c.in-Ok.next c.in-Ok.ensures _ _ more c.loop-n.invariant.1 c.args.table.now n _ c.step_fault-fault.result c.words_of-words.ensures.words c.step_fault-fault.ensures p is e ∙ c.loop-n.invariant.2 p is e
 
 pub loop-n-preserved : goal.loop-n-preserved
 loop-n-preserved c =
@@ -63,5 +63,5 @@ loop-n-preserved c =
     let left = steps_left k s c.loop-n.at _ _ more c.in-Ok.step c.in-Ok.next c.in-Ok.ensures c.loop-n.invariant.1 in (
       omega (arith, c.loop-n.invariant.0),
       left.2,
-      λ p is e. sym (or_none c.step-fault-fault.result _ (sym c.is-some.ensures ∙ c.if-is-some.false)) ∙ fault_more s k c.loop-n.at c.in-Ok.step c.in-Ok.next c.in-Ok.ensures _ _ more c.loop-n.invariant.1 c.args.table.now n _ c.step-fault-fault.result c.words-of-words.ensures.words c.step-fault-fault.ensures p is e ∙ c.loop-n.invariant.2 p is e,
+      λ p is e. sym (or_none c.step_fault-fault.result _ (sym c.is_some.ensures ∙ c.if-is_some.false)) ∙ fault_more s k c.loop-n.at c.in-Ok.step c.in-Ok.next c.in-Ok.ensures _ _ more c.loop-n.invariant.1 c.args.table.now n _ c.step_fault-fault.result c.words_of-words.ensures.words c.step_fault-fault.ensures p is e ∙ c.loop-n.invariant.2 p is e,
     )

@@ -13,4 +13,4 @@ returns c =
     let v = c.args.vars in
     let all : 2 * v - 0 ≡ 2 * v = omega arith in
     let box : box_of (take (2 * v - 0) (replicate 128 (pos 0))) ≡ zeros v = ap (λ k. box_of (take k (replicate 128 (pos 0)))) all ∙ ap box_of (take-replicate (2 * v) 128 (pos 0) (omega (arith, c.requires.few))) ∙ zeros_are v in
-    c.missed-by.ensures ∙ ap₂ (λ b a. missed (within b) a) box (ap place_of c.row-of.ensures.row)
+    c.missed_by.ensures ∙ ap₂ (λ b a. missed (within b) a) box (ap place_of c.row_of.ensures.row)

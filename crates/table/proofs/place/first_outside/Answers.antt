@@ -14,9 +14,9 @@ returns-then-not-inside c =
     let k = c.loop-k.k in
     let l : k < length (box_of a) = omega (arith, length-box_of a) in
     let m : k < length (box_of b) = omega (arith, length-box_of b) in
-    let no-inside : inside1 c.range-at-r.result c.range-at-q.result ≡ false = sym c.inside.ensures ∙ c.if-not-inside.true in
-    sym (ap (λ t. cond t (outside (k + 1) (drop (k + 1) (box_of a)) (drop (k + 1) (box_of b))) (Some (Outside (record { 0 = k }) c.range-at-r.result c.range-at-q.result))) no-inside)
-    ∙ sym (outside_more k (box_of a) (box_of b) _ _ l m c.range-at-r.ensures c.range-at-q.ensures)
+    let no-inside : inside1 c.range_at-r.result c.range_at-q.result ≡ false = sym c.inside.ensures ∙ c.if-not-inside.true in
+    sym (ap (λ t. cond t (outside (k + 1) (drop (k + 1) (box_of a)) (drop (k + 1) (box_of b))) (Some (Outside (record { 0 = k }) c.range_at-r.result c.range_at-q.result))) no-inside)
+    ∙ sym (outside_more k (box_of a) (box_of b) _ _ l m c.range_at-r.ensures c.range_at-q.ensures)
     ∙ c.loop-k.invariant
 
 pub loop-k-preserved : goal.loop-k-preserved
@@ -26,9 +26,9 @@ loop-k-preserved c =
     let k = c.loop-k.k in
     let l : k < length (box_of a) = omega (arith, length-box_of a) in
     let m : k < length (box_of b) = omega (arith, length-box_of b) in
-    let is-inside : inside1 c.range-at-r.result c.range-at-q.result ≡ true = sym c.inside.ensures ∙ c.if-not-inside.false in
-    sym (ap (λ t. cond t (outside (k + 1) (drop (k + 1) (box_of a)) (drop (k + 1) (box_of b))) (Some (Outside (record { 0 = k }) c.range-at-r.result c.range-at-q.result))) is-inside)
-    ∙ sym (outside_more k (box_of a) (box_of b) _ _ l m c.range-at-r.ensures c.range-at-q.ensures)
+    let is-inside : inside1 c.range_at-r.result c.range_at-q.result ≡ true = sym c.inside.ensures ∙ c.if-not-inside.false in
+    sym (ap (λ t. cond t (outside (k + 1) (drop (k + 1) (box_of a)) (drop (k + 1) (box_of b))) (Some (Outside (record { 0 = k }) c.range_at-r.result c.range_at-q.result))) is-inside)
+    ∙ sym (outside_more k (box_of a) (box_of b) _ _ l m c.range_at-r.ensures c.range_at-q.ensures)
     ∙ c.loop-k.invariant
 
 pub returns : goal.returns

@@ -10,6 +10,6 @@ pub returns : goal.returns
 returns c =
     let row = c.args.row.now in
     let made = c.args.made.now in
-    c.first-outside.ensures
+    c.first_outside.ensures
     ∙ ap (λ s. outside 0 (box_of made) (box_of s)) (take_rest row 1)
-    ∙ sym (ap (missed (within (box_of made))) (place_known row (omega arith) (sym c.is-known.ensures ∙ c.if-not-is-known.false)))
+    ∙ sym (ap (missed (within (box_of made))) (place_known row (omega arith) (sym c.is_known.ensures ∙ c.if-not-is_known.false)))

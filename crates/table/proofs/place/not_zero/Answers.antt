@@ -3,12 +3,12 @@ use Rattle.table.specs.Looking.{not_zero}
 use Rattle.table.proofs.Loops.{not_zero_more, not_zero-all}
 use Rattle.table.proofs.place.not_zero.Goals as goal
 
-pub returns-then-not-is-zero : goal.returns-then-not-is-zero
-returns-then-not-is-zero c =
+pub returns-then-not-is_zero : goal.returns-then-not-is_zero
+returns-then-not-is_zero c =
     let s = c.args.numbers.now in
     let k = c.args.k in
     let i = c.loop-i.i in
-    sym (ap (λ t. cond t (not_zero (k + (i + 1)) (drop (i + 1) s)) (Some (k + i))) (sym c.is-zero.ensures ∙ c.if-not-is-zero.true))
+    sym (ap (λ t. cond t (not_zero (k + (i + 1)) (drop (i + 1) s)) (Some (k + i))) (sym c.is_zero.ensures ∙ c.if-not-is_zero.true))
     ∙ sym (not_zero_more k i s (omega arith))
     ∙ c.loop-i.invariant
 
@@ -17,7 +17,7 @@ loop-i-preserved c =
     let s = c.args.numbers.now in
     let k = c.args.k in
     let i = c.loop-i.i in
-    sym (ap (λ t. cond t (not_zero (k + (i + 1)) (drop (i + 1) s)) (Some (k + i))) (sym c.is-zero.ensures ∙ c.if-not-is-zero.false))
+    sym (ap (λ t. cond t (not_zero (k + (i + 1)) (drop (i + 1) s)) (Some (k + i))) (sym c.is_zero.ensures ∙ c.if-not-is_zero.false))
     ∙ sym (not_zero_more k i s (omega arith))
     ∙ c.loop-i.invariant
 

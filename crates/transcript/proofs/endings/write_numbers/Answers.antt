@@ -16,7 +16,7 @@ loop-k-preserved c =
     let out = string_bytes c.loop-k.out in
     let fits : SFits w64 (get_or s k (pos 0)) = search rules in
     let read = to_z-of_z w64 (get_or s k (pos 0)) fits in
-    line_more out (string_bytes c.write.new.self) (signed_decimal (get_or s k (pos 0)) ++ codes "\n") (number_lines (drop (k + 1) s)) (c.in-ok-write.ensures.bytes ∙ ap (λ z. out ++ (signed_decimal z ++ codes "\n")) read)
+    line_more out (string_bytes c.write.new.self) (signed_decimal (get_or s k (pos 0)) ++ codes "\n") (number_lines (drop (k + 1) s)) (c.in_ok-write.ensures.bytes ∙ ap (λ z. out ++ (signed_decimal z ++ codes "\n")) read)
     ∙ ap (λ s. out ++ number_lines s) (sym (drop_more s k (pos 0) (omega arith)))
     ∙ c.loop-k.invariant
 
