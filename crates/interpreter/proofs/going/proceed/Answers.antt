@@ -37,7 +37,7 @@ pub fetch-step-requires : goal.fetch-step-requires
 fetch-step-requires c =
     let found = c.requires.ready in
     let z = c.mark_at-mark.result in
-    let read = to_z-of_z w64 z (record { sfits = c.mark_at-mark.type-inv }) in
+    let read = to_z-of_z w64 z (record { sfits = c.mark_at-mark.type_inv }) in
     let g = c.loop-left.invariant.5 found.0 found.1 found.2 found.3 found.5 in
     begins c.args.rows.now c.args.marks.now found.0 found.1 found.2 found.5 c.loop-left.cursor.place g.place c.if-cursor-marks.false z c.mark_at-mark.ensures c.offset.result (c.offset.ensures ∙ ap offset_of read)
 
@@ -56,7 +56,7 @@ perform-requires c =
     let inv = c.loop-left.invariant in
     let i = c.fetch-step.result in
     let z = c.mark_at-mark.result in
-    let read = to_z-of_z w64 z (record { sfits = c.mark_at-mark.type-inv }) in
+    let read = to_z-of_z w64 z (record { sfits = c.mark_at-mark.type_inv }) in
     let found = c.requires.ready in
     let p = found.0 in
     let t = found.1 in
@@ -87,7 +87,7 @@ loop-left-preserved c =
     let inv = c.loop-left.invariant in
     let i = c.fetch-step.result in
     let z = c.mark_at-mark.result in
-    let read = to_z-of_z w64 z (record { sfits = c.mark_at-mark.type-inv }) in
+    let read = to_z-of_z w64 z (record { sfits = c.mark_at-mark.type_inv }) in
     let found = c.requires.ready in
     let moved = c.in-On.ensures.moves found.0 found.2 in
     let one = at_most_one c.is_sure-sure.result in
@@ -132,7 +132,7 @@ returns-in-Stopped c p t is holds marked =
     let inv = c.loop-left.invariant in
     let i = c.fetch-step.result in
     let z = c.mark_at-mark.result in
-    let read = to_z-of_z w64 z (record { sfits = c.mark_at-mark.type-inv }) in
+    let read = to_z-of_z w64 z (record { sfits = c.mark_at-mark.type_inv }) in
     let g = inv.5 p t is holds marked in
     let u = fetched s c.args.marks.now p t is marked cursor.place g.place c.if-cursor-marks.false z c.mark_at-mark.ensures c.offset.result (c.offset.ensures ∙ ap offset_of read) i c.fetch-step.ensures c.is_sure-sure.result (c.is_sure-sure.ensures ∙ ap sure_of read) in
     let w = went s q p t is holds c.requires.fit n cursor c.loop-left.vars c.loop-left.memory o k g i u.0 _ c.is_sure-sure.result c.counted-tests.result (c.in-Stopped.ensures.acts p is) u.1 c.counted-tests.ensures in
@@ -151,7 +151,7 @@ returns-in-Failed c p t is holds marked =
     let inv = c.loop-left.invariant in
     let i = c.fetch-step.result in
     let z = c.mark_at-mark.result in
-    let read = to_z-of_z w64 z (record { sfits = c.mark_at-mark.type-inv }) in
+    let read = to_z-of_z w64 z (record { sfits = c.mark_at-mark.type_inv }) in
     let g = inv.5 p t is holds marked in
     let u = fetched s c.args.marks.now p t is marked cursor.place g.place c.if-cursor-marks.false z c.mark_at-mark.ensures c.offset.result (c.offset.ensures ∙ ap offset_of read) i c.fetch-step.ensures c.is_sure-sure.result (c.is_sure-sure.ensures ∙ ap sure_of read) in
     let w = went s q p t is holds c.requires.fit n cursor c.loop-left.vars c.loop-left.memory o k g i u.0 _ c.is_sure-sure.result c.counted-tests.result (c.in-Failed.ensures.acts p is) u.1 c.counted-tests.ensures in
@@ -170,7 +170,7 @@ returns-in-Full c p t is holds marked =
     let inv = c.loop-left.invariant in
     let i = c.fetch-step.result in
     let z = c.mark_at-mark.result in
-    let read = to_z-of_z w64 z (record { sfits = c.mark_at-mark.type-inv }) in
+    let read = to_z-of_z w64 z (record { sfits = c.mark_at-mark.type_inv }) in
     let g = inv.5 p t is holds marked in
     let u = fetched s c.args.marks.now p t is marked cursor.place g.place c.if-cursor-marks.false z c.mark_at-mark.ensures c.offset.result (c.offset.ensures ∙ ap offset_of read) i c.fetch-step.ensures c.is_sure-sure.result (c.is_sure-sure.ensures ∙ ap sure_of read) in
     let w = went s q p t is holds c.requires.fit n cursor c.loop-left.vars c.loop-left.memory o k g i u.0 _ c.is_sure-sure.result c.counted-tests.result (c.in-Full.ensures.acts p is).1 u.1 c.counted-tests.ensures in

@@ -21,7 +21,7 @@ load-requires c =
       begun = h.1.begun;
       start = h.1.start;
       room = h.1.room;
-      fits = λ sure. ap₂ index_of h.1.long (passed c.value-i.type-inv c.value-i.ensures) ∙ k.safe sure;
+      fits = λ sure. ap₂ index_of h.1.long (passed c.value-i.type_inv c.value-i.ensures) ∙ k.safe sure;
     }
 
 pub store-requires : goal.store-requires
@@ -33,7 +33,7 @@ store-requires c =
       begun = h.begun;
       start = h.start;
       room = h.room;
-      fits = λ sure. ap₂ index_of h.long (passed c.value-i-in-Store.type-inv c.value-i-in-Store.ensures) ∙ k.safe sure;
+      fits = λ sure. ap₂ index_of h.long (passed c.value-i-in-Store.type_inv c.value-i-in-Store.ensures) ∙ k.safe sure;
     }
 
 pub settled-requires-in-Store : goal.settled-requires-in-Store
@@ -44,22 +44,22 @@ settled-requires-in-Store c =
 pub returns-in-Set : goal.returns-in-Set
 returns-in-Set c =
     let k = ready c.in-Set.is c.requires.taken c.requires.count c.requires.ready in
-    let t = by_set k c.in-Set.is (passed c.value-z.type-inv c.value-z.ensures) c.onward.ensures in
+    let t = by_set k c.in-Set.is (passed c.value-z.type_inv c.value-z.ensures) c.onward.ensures in
     record { acts = t.acts; moves = t.moves }
 
 pub returns-in-Add : goal.returns-in-Add
 returns-in-Add c =
     let k = ready c.in-Add.is c.requires.taken c.requires.count c.requires.ready in
-    let a = passed c.value-a.type-inv c.value-a.ensures in
-    let b = passed c.value-b.type-inv c.value-b.ensures in
+    let a = passed c.value-a.type_inv c.value-a.ensures in
+    let b = passed c.value-b.type_inv c.value-b.ensures in
     let t = by_number k c.in-Add.is c.in-Add.x.0 c.add.result refl (ap₂ ◌+ℤ◌ a b) c.add.ensures c.settled.ensures in
     record { acts = t.acts; moves = t.moves }
 
 pub returns-in-Sub : goal.returns-in-Sub
 returns-in-Sub c =
     let k = ready c.in-Sub.is c.requires.taken c.requires.count c.requires.ready in
-    let a = passed c.value-a-in-Sub.type-inv c.value-a-in-Sub.ensures in
-    let b = passed c.value-b-in-Sub.type-inv c.value-b-in-Sub.ensures in
+    let a = passed c.value-a-in-Sub.type_inv c.value-a-in-Sub.ensures in
+    let b = passed c.value-b-in-Sub.type_inv c.value-b-in-Sub.ensures in
     let t = by_number k c.in-Sub.is c.in-Sub.x.0 c.sub.result refl (ap₂ ◌-ℤ◌ a b) c.sub.ensures c.settled-in-Sub.ensures in
     record { acts = t.acts; moves = t.moves }
 
@@ -68,21 +68,21 @@ returns-in-Mul c =
     let fits : SFits w64 c.in-Mul.a = search rules in
     let k = ready c.in-Mul.is c.requires.taken c.requires.count c.requires.ready in
     let a = to_z-of_z w64 c.in-Mul.a fits in
-    let b = passed c.value-b-in-Mul.type-inv c.value-b-in-Mul.ensures in
+    let b = passed c.value-b-in-Mul.type_inv c.value-b-in-Mul.ensures in
     let t = by_number k c.in-Mul.is c.in-Mul.x.0 c.mul.result refl (ap₂ ◌*ℤ◌ a b) c.mul.ensures c.settled-in-Mul.ensures in
     record { acts = t.acts; moves = t.moves }
 
 pub returns-in-Load : goal.returns-in-Load
 returns-in-Load c =
     let k = ready c.in-Load.is c.requires.taken c.requires.count c.requires.ready in
-    let t = by_load k c.in-Load.is c.load.result (passed c.value-i.type-inv c.value-i.ensures) c.load.ensures c.settled-in-Load.ensures in
+    let t = by_load k c.in-Load.is c.load.result (passed c.value-i.type_inv c.value-i.ensures) c.load.ensures c.settled-in-Load.ensures in
     record { acts = t.acts; moves = t.moves }
 
 pub returns-in-Store : goal.returns-in-Store
 returns-in-Store c =
     let k = ready c.in-Store.is c.requires.taken c.requires.count c.requires.ready in
-    let i = passed c.value-i-in-Store.type-inv c.value-i-in-Store.ensures in
-    let z = passed c.value-z-in-Store.type-inv c.value-z-in-Store.ensures in
+    let i = passed c.value-i-in-Store.type_inv c.value-i-in-Store.ensures in
+    let z = passed c.value-z-in-Store.type_inv c.value-z-in-Store.ensures in
     let t = by_store k c.in-Store.is c.store.result i z c.store.ensures c.settled-in-Store.ensures in
     record { acts = t.acts; moves = t.moves }
 
@@ -95,13 +95,13 @@ returns-in-Ask c =
 pub returns-then-not-show : goal.returns-then-not-show
 returns-then-not-show c =
     let k = ready c.in-Show.is c.requires.taken c.requires.count c.requires.ready in
-    let t = by_full k c.in-Show.is (passed c.value-z-in-Show.type-inv c.value-z-in-Show.ensures) c.if-not-show.true c.show.ensures in
+    let t = by_full k c.in-Show.is (passed c.value-z-in-Show.type_inv c.value-z-in-Show.ensures) c.if-not-show.true c.show.ensures in
     record { acts = t.acts; moves = t.moves }
 
 pub returns-else-not-show : goal.returns-else-not-show
 returns-else-not-show c =
     let k = ready c.in-Show.is c.requires.taken c.requires.count c.requires.ready in
-    let t = by_shown k c.in-Show.is (passed c.value-z-in-Show.type-inv c.value-z-in-Show.ensures) c.if-not-show.false c.show.ensures in
+    let t = by_shown k c.in-Show.is (passed c.value-z-in-Show.type_inv c.value-z-in-Show.ensures) c.if-not-show.false c.show.ensures in
     record { acts = t.acts; moves = t.moves }
 
 pub returns-in-Go : goal.returns-in-Go
@@ -113,15 +113,15 @@ returns-in-Go c =
 pub returns-then-a-b : goal.returns-then-a-b
 returns-then-a-b c =
     let k = ready c.in-Less.is c.requires.taken c.requires.count c.requires.ready in
-    let a = passed c.value-a-in-Less.type-inv c.value-a-in-Less.ensures in
-    let b = passed c.value-b-in-Less.type-inv c.value-b-in-Less.ensures in
+    let a = passed c.value-a-in-Less.type_inv c.value-a-in-Less.ensures in
+    let b = passed c.value-b-in-Less.type_inv c.value-b-in-Less.ensures in
     let t = by_less k c.in-Less.is a b c.if-a-b.true c.to-then-a-b.ensures in
     record { acts = t.acts; moves = t.moves }
 
 pub returns-else-a-b : goal.returns-else-a-b
 returns-else-a-b c =
     let k = ready c.in-Less.is c.requires.taken c.requires.count c.requires.ready in
-    let a = passed c.value-a-in-Less.type-inv c.value-a-in-Less.ensures in
-    let b = passed c.value-b-in-Less.type-inv c.value-b-in-Less.ensures in
+    let a = passed c.value-a-in-Less.type_inv c.value-a-in-Less.ensures in
+    let b = passed c.value-b-in-Less.type_inv c.value-b-in-Less.ensures in
     let t = by_less k c.in-Less.is a b c.if-a-b.false c.onward-in-Less.ensures in
     record { acts = t.acts; moves = t.moves }

@@ -41,7 +41,7 @@ loop-k-preserved c =
           let left = marks_from p t (k + 1) next (drop (k + 1) p.code) in
           let this = mark (licensed p t k) at in
           let room : k < length m = omega arith in
-          ap (λ r. r ++ left) (take_more_set m k _ room ∙ ap (λ z. take k m ++ z ∷ []) (to_z-of_z w64 c.mark.result (record { sfits = c.mark.type-inv }) ∙ c.mark.ensures ∙ ap (λ b. mark b at) sure))
+          ap (λ r. r ++ left) (take_more_set m k _ room ∙ ap (λ z. take k m ++ z ∷ []) (to_z-of_z w64 c.mark.result (record { sfits = c.mark.type_inv }) ∙ c.mark.ensures ∙ ap (λ b. mark b at) sure))
           ∙ append_assoc (take k m) (this ∷ []) left
           ∙ ap (λ a. take k m ++ this ∷ marks_from p t (k + 1) a (drop (k + 1) p.code)) (sym u.1)
           ∙ ap (λ is. take k m ++ marks_from p t k at is) (sym here.1)

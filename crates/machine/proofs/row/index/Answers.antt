@@ -4,8 +4,8 @@ use Rattle.std.proofs.lemmas.Int.{to_z-of_z}
 use Rattle.machine.proofs.Fetching.{here}
 use Rattle.machine.proofs.row.index.Goals as goal
 
-pub offset-bounds-row-k : goal.offset-bounds-row-k
-offset-bounds-row-k c = omega (arith, here c.args.row.now c.args.k (pos c.requires.0) c.requires.1 c.requires.2)
+pub offset_bounds-row-k : goal.offset_bounds-row-k
+offset_bounds-row-k c = omega (arith, here c.args.row.now c.args.k (pos c.requires.0) c.requires.1 c.requires.2)
 
 pub bounds-row-k : goal.bounds-row-k
 bounds-row-k c = (here c.args.row.now c.args.k _ _ c.requires.2).0

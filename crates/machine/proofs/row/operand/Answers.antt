@@ -4,8 +4,8 @@ use Rattle.program.specs.declared.Operand.TheVariants.{Num, Var}
 use Rattle.machine.proofs.Fetching.{operand_room, num_here, var_here}
 use Rattle.machine.proofs.row.operand.Goals as goal
 
-pub offset-bounds-row-k : goal.offset-bounds-row-k
-offset-bounds-row-k c = omega (arith, operand_room c.args.row.now c.args.k c.requires.0 c.requires.1 c.requires.2)
+pub offset_bounds-row-k : goal.offset_bounds-row-k
+offset_bounds-row-k c = omega (arith, operand_room c.args.row.now c.args.k c.requires.0 c.requires.1 c.requires.2)
 
 pub bounds-row-k : goal.bounds-row-k
 bounds-row-k c = omega (arith, operand_room c.args.row.now c.args.k c.requires.0 c.requires.1 c.requires.2)
@@ -13,8 +13,8 @@ bounds-row-k c = omega (arith, operand_room c.args.row.now c.args.k c.requires.0
 pub overflow_add-result : goal.overflow_add-result
 overflow_add-result c = omega (arith, operand_room c.args.row.now c.args.k c.requires.0 c.requires.1 c.requires.2)
 
-pub offset-bounds-row-k-then-row-k-eq0 : goal.offset-bounds-row-k-then-row-k-eq0
-offset-bounds-row-k-then-row-k-eq0 c = omega (arith, operand_room c.args.row.now c.args.k c.requires.0 c.requires.1 c.requires.2)
+pub offset_bounds-row-k-then-row-k-eq0 : goal.offset_bounds-row-k-then-row-k-eq0
+offset_bounds-row-k-then-row-k-eq0 c = omega (arith, operand_room c.args.row.now c.args.k c.requires.0 c.requires.1 c.requires.2)
 
 pub bounds-row-k-then-row-k-eq0 : goal.bounds-row-k-then-row-k-eq0
 bounds-row-k-then-row-k-eq0 c = operand_room c.args.row.now c.args.k _ _ c.requires.2

@@ -7,20 +7,20 @@ use Rattle.interpreter.specs.declared.Ran.TheVariants.{Stopped, Failed, More}
 use Rattle.transcript.proofs.Ends.{within_room, said}
 use Rattle.transcript.proofs.runs.run_text.Goals as goal
 
-pub slice-bounds-lines-end : goal.slice-bounds-lines-end
-slice-bounds-lines-end c =
+pub slice_bounds-lines-end : goal.slice_bounds-lines-end
+slice_bounds-lines-end c =
     let found = c.in-Stopped.ensures.says in
     let fits = within_room c.in-Stopped.k c.run-ran.new.shown found.2.shown found.7 found.8 in
     search (rules, fits)
 
-pub slice-bounds-lines-end_in-Failed : goal.slice-bounds-lines-end_in-Failed
-slice-bounds-lines-end_in-Failed c =
+pub slice_bounds-lines-end_in-Failed : goal.slice_bounds-lines-end_in-Failed
+slice_bounds-lines-end_in-Failed c =
     let found = c.in-Failed.ensures.says in
     let fits = within_room c.in-Failed.k c.run-ran.new.shown found.2.shown found.7 found.8 in
     search (rules, fits)
 
-pub slice-bounds-lines-end_in-More : goal.slice-bounds-lines-end_in-More
-slice-bounds-lines-end_in-More c =
+pub slice_bounds-lines-end_in-More : goal.slice_bounds-lines-end_in-More
+slice_bounds-lines-end_in-More c =
     let found = c.in-More.ensures.says in
     let fits = within_room c.in-More.k c.run-ran.new.shown found.2.shown found.7 found.8 in
     search (rules, fits)
