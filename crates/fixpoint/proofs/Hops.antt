@@ -1,6 +1,6 @@
 -- What a hop does to one place, and what every hop keeps, a sweep keeps.
 use Rattle.std.proofs.Common.{◌≡◌, ℕ, zero, suc, ◌+◌, List, [], ◌∷◌, set, Some, refl, add-zero, zero-add, arith}
-use Rattle.std.specs.List.{slice_get, AllByRecursion as All}
+use Rattle.std.specs.List.{slice_get, AllByRecursion}
 use Rattle.program.specs.declared.Step.{Step}
 use Rattle.program.specs.Program.{Prog}
 use Rattle.interval.specs.declared.Way.{Way}
@@ -10,7 +10,7 @@ use Rattle.table.specs.Tables.{Table, at, words_of, Holds}
 use Rattle.fixpoint.specs.Hops.{lands, after, carries, sweep_from, sweep}
 
 -- what holds of each place, and of places that are not there
-pub at_all : (P : At → Type 0) (t : Table) → P never → All P t → (n : ℕ) → P (at t n)
+pub at_all : (P : At → Type 0) (t : Table) → P never → AllByRecursion P t → (n : ℕ) → P (at t n)
 at_all P [] q h n = q
 at_all P (a ∷ t) q h zero = h.0
 at_all P (a ∷ t) q h (suc n) = at_all P t q h.1 n

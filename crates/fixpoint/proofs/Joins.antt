@@ -1,7 +1,7 @@
 -- The laws of joining, and of whether one lies inside another.
 use Rattle.std.proofs.Common.{◌≡◌, ℕ, T, [], ◌∷◌, length, refl, ap, ap₂, arith}
 use borrow.Author.Differences.{same_in}
-use Rattle.std.specs.List.{AllByRecursion as All}
+use Rattle.std.specs.List.{AllByRecursion}
 use Rattle.number.specs.Numbers.{least, most}
 use Rattle.program.proofs.Results.{both, both-T}
 use Rattle.interval.specs.declared.Range.{Range}
@@ -106,7 +106,7 @@ join_known Q f never c h k = k
 join_known Q f (within b) never h k = h
 join_known Q f (within b) (within c) h k = f b c h k
 
-join-all : (P : Range → Type 0) → ((r q : Range) → P r → P q → P (join r q)) → (b c : Box) → All P b → All P c → All P (join_box b c)
+join-all : (P : Range → Type 0) → ((r q : Range) → P r → P q → P (join r q)) → (b c : Box) → AllByRecursion P b → AllByRecursion P c → AllByRecursion P (join_box b c)
 join-all P f [] c h k = k
 join-all P f (r ∷ b) [] h k = h
 join-all P f (r ∷ b) (q ∷ c) h k = (f r q h.0 k.0, join-all P f b c h.1 k.1)

@@ -1,7 +1,7 @@
 -- What every hop keeps, a sweep keeps; a round keeps a table sound, and one that changes nothing has come to the least.
 use Rattle.std.proofs.Common.{◌≡◌, ℕ, zero, suc, ◌+◌, false, not, ◌||◌, T, List, [], ◌∷◌, length, set, replicate, ℤ, pos, Some, refl, ap, ◌∙◌, subst, ap₂, add-zero, zero-add, arith}
 use mathlib.Core.Bool.{or-false}
-use Rattle.std.specs.List.{slice_get, AllByRecursion as All}
+use Rattle.std.specs.List.{slice_get, AllByRecursion}
 use Rattle.std.proofs.lemmas.List.{length-set, set-get_or, length-replicate}
 use Rattle.std.proofs.lemmas.Bool.{or_parts, not-false}
 use Rattle.program.specs.declared.Step.{Step}
@@ -75,7 +75,7 @@ rounds_sound s p zero t is h = h
 rounds_sound s p (suc k) t is h = rounds_sound s p k (round p t).table is (round_sound s p t is h)
 
 -- the start
-zeros-all : (P : Range → Type 0) → P (only (pos 0)) → (k : ℕ) → All P (zeros k)
+zeros-all : (P : Range → Type 0) → P (only (pos 0)) → (k : ℕ) → AllByRecursion P (zeros k)
 zeros-all P p zero = tt
 zeros-all P p (suc k) = (p, zeros-all P p k)
 
@@ -152,7 +152,7 @@ round_holds p t h e = record {
   full = λ n b known. subst (LongAt p.vars) known (h.full n);
 }
 
-all-nth : (P : Range → Type 0) (b : Box) (i : ℕ) (r : Range) → All P b → slice_get b i ≡ Some r → P r
+all-nth : (P : Range → Type 0) (b : Box) (i : ℕ) (r : Range) → AllByRecursion P b → slice_get b i ≡ Some r → P r
 all-nth P [] i r h e = absurd (let z : ◌≡◌ {A = ℕ} 0 1 = cc in omega arith)
 all-nth P (q ∷ b) zero r h e = let same : q ≡ r = cc in subst P same h.0
 all-nth P (q ∷ b) (suc i) r h e = all-nth P b i r h.1 e

@@ -1,16 +1,16 @@
 -- What the loops that lay out memory go by.
 use Rattle.std.proofs.Common.{◌≡◌, ℕ, zero, suc, ◌+◌, ◌<◌, List, [], ◌∷◌, ◌++◌, length, get_or, take, drop, set, replicate, sym, refl, ap, ◌∙◌, arith}
-use Rattle.std.specs.List.{AllByRecursion as All}
+use Rattle.std.specs.List.{AllByRecursion}
 use Rattle.std.proofs.lemmas.List.{append_assoc, take_more_set}
 
 next : (k : ℕ) → k + 1 ≡ suc k
 next k = omega arith
 
 -- one element more
-pub all_more : {X : Type 0} (P : X → Type 0) (s : List X) (k : ℕ) (d : X) → All P (take k s) → P (get_or s k d) → k < length s → All P (take (k + 1) s)
+pub all_more : {X : Type 0} (P : X → Type 0) (s : List X) (k : ℕ) (d : X) → AllByRecursion P (take k s) → P (get_or s k d) → k < length s → AllByRecursion P (take (k + 1) s)
 all_more P s k d h p l = rw next (go s k h p l)
   where
-    go : (s : List _) (k : ℕ) → All P (take k s) → P (get_or s k d) → k < length s → All P (take (suc k) s)
+    go : (s : List _) (k : ℕ) → AllByRecursion P (take k s) → P (get_or s k d) → k < length s → AllByRecursion P (take (suc k) s)
     go [] k h p l = absurd (omega arith)
     go (x ∷ s) zero h p l = (p, tt)
     go (x ∷ s) (suc k) h p l = (h.0, go s k h.1 p (omega arith))

@@ -1,6 +1,6 @@
 -- What the loop over the steps of a run goes by.
 use Rattle.std.proofs.Common.{◌≡◌, ℕ, zero, suc, ◌+◌, ◌-◌, ◌<◌, ◌≤◌, min, Bool, true, false, cond, T, List, [], ◌∷◌, ◌++◌, length, get_or, take, drop, replicate, ℤ, pos, Some, None, Option, sym, refl, ap, ◌∙◌, subst, ap₂, ⊎_elim, arith}
-use Rattle.std.specs.List.{slice_get, AllByRecursion as All}
+use Rattle.std.specs.List.{slice_get, AllByRecursion}
 use Rattle.std.proofs.lemmas.List.{length-take, length-replicate, replicate-append-replicate, take_at, drop_at}
 use Rattle.std.proofs.lemmas.Option.{slice_get-get_or, slice_get_past}
 use Rattle.std.proofs.lemmas.Bool.{cases_lt}
@@ -129,7 +129,7 @@ module _ (p : Prog) (t : Table) (q : List ℤ) (N : ℕ) (O o : List ℤ) (count
       let u = stayed n (fails a x) l (λ m. fails_stays m p t a x) e f in
       ends (fails a x) (Failed a count k) u.0 u.1 sh m d (λ long. ap (λ n. Failed a n k) (sym long))
 
-module _ (s q : List ℤ) (p : Prog) (t : Table) (is : Program s p) (holds : Holds p t) (fit : All (λ z. T (in64 z)) q) (n : ℕ) (c : Cursor) (vs m o : List ℤ) (k : ℕ) (g : Going p t q n c vs m o k) (i : Step) (here : slice_get p.code c.place ≡ Some i) where
+module _ (s q : List ℤ) (p : Prog) (t : Table) (is : Program s p) (holds : Holds p t) (fit : AllByRecursion (λ z. T (in64 z)) q) (n : ℕ) (c : Cursor) (vs m o : List ℤ) (k : ℕ) (g : Going p t q n c vs m o k) (i : Step) (here : slice_get p.code c.place ≡ Some i) where
   abbrev now : State
   now = state_of p.arrays c vs m q o
 

@@ -1,6 +1,6 @@
 -- Runs of many steps.
 use Rattle.std.proofs.Common.{◌≡◌, ℕ, zero, suc, ◌+◌, ◌-◌, ◌≤◌, Bool, true, false, cond, T, List, [], ◌∷◌, ◌++◌, length, ℤ, Some, None, Option, sym, refl, ap, ◌∙◌, subst, add_assoc, zero-add, arith, length-append}
-use Rattle.std.specs.List.{slice_get, AllByRecursion as All}
+use Rattle.std.specs.List.{slice_get, AllByRecursion}
 use Rattle.std.proofs.lemmas.Bool.{false≢true}
 use Rattle.number.specs.Numbers.{in64, less_z}
 use Rattle.program.specs.declared.Step.{Step}
@@ -91,7 +91,7 @@ shown_stays m n p r l =
     subst (λ k. length (shown_by (steps m p r)) ≤ length (shown_by k)) (sym (ap (λ k. steps k p r) more ∙ steps_add m (n - m) p r)) (steps_show (n - m) p (steps m p r))
 
 -- a licensed step that a run comes to doesn't fail
-pub sure_step : (s : List ℤ) (p : Prog) (t : Table) (q : List ℤ) (n : ℕ) (x y : State) (i : Step) → Program s p → Holds p t → All (λ z. T (in64 z)) q → steps n p (begin p q) ≡ on x → slice_get p.code x.at ≡ Some i → licensed p t x.at ≡ true → act p x i ≡ fails x.at y → ⊥
+pub sure_step : (s : List ℤ) (p : Prog) (t : Table) (q : List ℤ) (n : ℕ) (x y : State) (i : Step) → Program s p → Holds p t → AllByRecursion (λ z. T (in64 z)) q → steps n p (begin p q) ≡ on x → slice_get p.code x.at ≡ Some i → licensed p t x.at ≡ true → act p x i ≡ fails x.at y → ⊥
 sure_step s p t q n x y i is holds h e here sure f =
     let fail : steps (n + 1) p (begin p q) ≡ fails x.at y = (one_more n p t (begin p q) x e).0 ∙ ap (act_or p x) here ∙ f in
     false≢true (sym (never_fails s p t q (n + 1) x.at y is holds h fail) ∙ sure)

@@ -1,7 +1,7 @@
 // The loop over the steps of a run.
 
 ghost use Rattle.std.specs.Prelude.{◌≡◌, ◌+◌, ◌^◌, ◌<◌, T, length, replicate, pos, if◌then◌else◌, slice_index_or};
-ghost use Rattle.std.specs.List.{AllByRecursion as All};
+ghost use Rattle.std.specs.List.{AllByRecursion};
 ghost use Rattle.number.specs.Numbers.{in64};
 ghost use Rattle.program.specs.Program.{Prog, counts_of};
 ghost use Rattle.program.specs.Rows.{Program};
@@ -40,7 +40,7 @@ pub(crate) fn proceed(
     steps: u32,
     shown: &mut [i64],
 ) -> Ran
-    requires fit { All (λ z. T (in64 z)) asked.now }
+    requires fit { AllByRecursion (λ z. T (in64 z)) asked.now }
     requires vars { vars.old ≡ replicate (length vars.old) (pos 0) }
     requires memory { memory.old ≡ replicate (length memory.old) (pos 0) }
     requires ready { (p : Prog) × (t : Table) × Program rows.now p × Holds p t × Laid p starts.now vars.old memory.old × (marks.now ≡ marks_from p t 0 (first (counts_of p)) p.code) }

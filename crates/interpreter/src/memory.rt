@@ -1,7 +1,7 @@
 // Memory laid out for a run.
 
 ghost use Rattle.std.specs.Prelude.{◌≡◌, ◌<◌, T, length, replicate, pos, slice_index_or};
-ghost use Rattle.std.specs.List.{AllByRecursion as All};
+ghost use Rattle.std.specs.List.{AllByRecursion};
 ghost use Rattle.number.specs.Numbers.{in64};
 ghost use Rattle.program.specs.Program.{Prog};
 ghost use Rattle.program.specs.Rows.{Program};
@@ -19,7 +19,7 @@ fn number_at(numbers: &[i64], k: usize) -> i64
 
 // Says so of all of them. Nothing is left of it in the compiled program.
 pub(crate) fn all_fit(numbers: &[i64])
-    ensures { All (λ z. T (in64 z)) numbers.now }
+    ensures { AllByRecursion (λ z. T (in64 z)) numbers.now }
 {
     for k in 0..numbers.len() {
         number_at(numbers, k);

@@ -1,6 +1,6 @@
 -- What a step keeps: proper ranges, ends that have their place in 64 bits, one range for each variable, and the box that knows nothing.
 use Rattle.std.proofs.Common.{◌≡◌, ℕ, zero, suc, Bool, true, false, cond, T, ltb, ◌⊎◌, [], ◌∷◌, length, get_or, set, ℤ, refl, ap, ◌∙◌, subst, inl, inr, arith}
-use Rattle.std.specs.List.{AllByRecursion as All}
+use Rattle.std.specs.List.{AllByRecursion}
 use Rattle.std.proofs.lemmas.List.{length-set}
 use Rattle.std.proofs.ByRecursion.{All-set}
 use Rattle.number.specs.Numbers.{in64}
@@ -76,7 +76,7 @@ module _ (P : Range → Type 0) (Q : Box → Type 0) (k : Kept P Q) where
 pub set_fits : (c : Counts) (i : Step) (x : VarT) (z : ℤ) → T (ok_i c i) → i ≡ Set x (Num z) → T (in64 z)
 set_fits c i x z h e = (both (ltb x.0 c.vars) (in64 z) (subst (λ j. T (ok_i c j)) e h)).1
 
-all_kept : (P : Range → Type 0) → P any → ((r q : Range) → P r ⊎ P q → T (some_left (cut r q)) → P (cut r q)) → Kept P (All P)
+all_kept : (P : Range → Type 0) → P any → ((r q : Range) → P r ⊎ P q → T (some_left (cut r q)) → P (cut r q)) → Kept P (AllByRecursion P)
 all_kept P p f = record { get = λ b x h. get-all P b x p h; put = λ b x r q h. All-set P b x r q h; whole = p; cuts = f }
 
 pub makes_proper : (n : ℕ) (w : Way) (i : Step) (b : Box) → Proper b → ProperAt (makes n w i b)
@@ -103,7 +103,7 @@ set-anys zero x = refl
 set-anys (suc k) zero = refl
 set-anys (suc k) (suc x) = ap (λ b. any ∷ b) (set-anys k x)
 
-pub anys-all : (P : Range → Type 0) → P any → (k : ℕ) → All P (anys k)
+pub anys-all : (P : Range → Type 0) → P any → (k : ℕ) → AllByRecursion P (anys k)
 anys-all P p zero = tt
 anys-all P p (suc k) = (p, anys-all P p k)
 

@@ -1,6 +1,6 @@
 -- What knows at least as much before a step knows at least as much after it.
 use Rattle.std.proofs.Common.{ℕ, zero, suc, Bool, true, false, cond, ◌&&◌, T, [], ◌∷◌, get_or, set, ℤ, pos, negsuc, ◌+ℤ◌, ◌-ℤ◌, arith}
-use Rattle.std.specs.List.{AllByRecursion as All}
+use Rattle.std.specs.List.{AllByRecursion}
 use Rattle.number.specs.Numbers.{le_z, low, high}
 use Rattle.program.specs.declared.Step.{Step}
 use Rattle.program.specs.declared.Step.TheVariants.{Set, Add, Sub, Mul, Load, Store, Ask, Show, Go, Less, Stop}
@@ -14,7 +14,7 @@ use Rattle.interval.specs.Ranges.{Box, At, never, within, any, only, range, cut,
 use Rattle.interval.specs.Laws.{Proper}
 use Rattle.interval.proofs.Order.{order, product_keeps, product_turns}
 
-pub get-all : (P : Range → Type 0) (b : Box) (x : ℕ) → P any → All P b → P (get_or b x any)
+pub get-all : (P : Range → Type 0) (b : Box) (x : ℕ) → P any → AllByRecursion P b → P (get_or b x any)
 get-all P [] x p h = p
 get-all P (r ∷ b) zero p h = h.0
 get-all P (r ∷ b) (suc x) p h = get-all P b x p h.1

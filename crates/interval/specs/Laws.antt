@@ -1,6 +1,6 @@
 -- The laws of what steps make of boxes.
 use Rattle.std.specs.Prelude.{◌≡◌, ℕ, T, length, replicate}
-use Rattle.std.specs.List.{AllByRecursion as All}
+use Rattle.std.specs.List.{AllByRecursion}
 use Rattle.number.specs.Numbers.{in64}
 use Rattle.program.specs.declared.Step.{Step}
 use Rattle.program.specs.declared.Counts.{Counts}
@@ -11,14 +11,14 @@ use Rattle.interval.specs.Ranges.{Box, At, never, within, any, some_left, makes,
 
 -- no range is turned
 abbrev pub Proper : Box → Type 0
-Proper b = All (λ r. T (some_left r)) b
+Proper b = AllByRecursion (λ r. T (some_left r)) b
 
 -- each end of each range has its place in 64 bits
 abbrev pub Bits1 : Range → Type 0
 Bits1 r = T (in64 r.lo) × T (in64 r.hi)
 
 abbrev pub InBits : Box → Type 0
-InBits b = All Bits1 b
+InBits b = AllByRecursion Bits1 b
 
 -- nothing is known of k variables
 abbrev pub anys : ℕ → Box

@@ -1,6 +1,6 @@
 -- The worked loop.
 use Rattle.std.proofs.Common.{◌≡◌, ℕ, zero, suc, [], ◌∷◌, Some, refl, subst, arith}
-use Rattle.std.specs.List.{slice_get, AllByRecursion as All}
+use Rattle.std.specs.List.{slice_get, AllByRecursion}
 use Rattle.program.specs.declared.Step.{Step}
 use Rattle.program.specs.declared.Step.TheVariants.{Go}
 use Rattle.interval.specs.Ranges.{Box, within}
@@ -23,7 +23,7 @@ carried (suc (suc (suc zero))) i b e f = here 3 i _ b _ e f (tt, ((tt, tt), tt))
 carried (suc (suc (suc (suc zero)))) i b e f = here 4 i _ b _ e f ((tt, tt), (tt, tt))
 carried (suc (suc (suc (suc (suc n))))) i b e f = absurd (let z : ◌≡◌ {A = ℕ} 0 1 = cc in omega arith)
 
-long_at : (k : ℕ) (t : Table) (n : ℕ) → All (LongAt k) t → LongAt k (at t n)
+long_at : (k : ℕ) (t : Table) (n : ℕ) → AllByRecursion (LongAt k) t → LongAt k (at t n)
 long_at k [] n h = tt
 long_at k (a ∷ t) zero h = h.0
 long_at k (a ∷ t) (suc n) h = long_at k t n h.1

@@ -1,6 +1,6 @@
 -- What a table that holds says is true of every state that a run reaches, and a licensed test never fails.
 use Rattle.std.proofs.Common.{◌≡◌, ℕ, zero, suc, ◌+◌, Bool, true, false, cond, not, ◌&&◌, T, ltb, leb, List, [], ◌∷◌, get_or, set, replicate, ℤ, pos, negsuc, ◌+ℤ◌, ◌-ℤ◌, ◌*ℤ◌, Some, None, Option, refl, ap, ◌∙◌, subst, arith}
-use Rattle.std.specs.List.{slice_get, AllByRecursion as All}
+use Rattle.std.specs.List.{slice_get, AllByRecursion}
 use Rattle.std.proofs.lemmas.List.{set-get_or}
 use Rattle.std.proofs.ByRecursion.{All-set}
 use Rattle.program.specs.declared.Step.{Step}
@@ -145,9 +145,9 @@ not_passed false b h e = refl
 
 -- numbers that have their place in 64 bits
 abbrev Bits : List ℤ → Type 0
-Bits vs = All (λ z. T (in64 z)) vs
+Bits vs = AllByRecursion (λ z. T (in64 z)) vs
 
-all_or : {X : Type 0} (P : X → Type 0) (xs : List X) (i : ℕ) (d : X) → P d → All P xs → P (get_or xs i d)
+all_or : {X : Type 0} (P : X → Type 0) (xs : List X) (i : ℕ) (d : X) → P d → AllByRecursion P xs → P (get_or xs i d)
 all_or P [] i d p h = p
 all_or P (x ∷ xs) zero d p h = h.0
 all_or P (x ∷ xs) (suc i) d p h = all_or P xs i d p h.1
@@ -168,7 +168,7 @@ zero_bits : (n : ℕ) → Bits (replicate n (pos 0))
 zero_bits zero = tt
 zero_bits (suc n) = (tt, zero_bits n)
 
-blank_bits : (ns : List ℕ) → All Bits (blank ns)
+blank_bits : (ns : List ℕ) → AllByRecursion Bits (blank ns)
 blank_bits [] = tt
 blank_bits (n ∷ ns) = (zero_bits n, blank_bits ns)
 
@@ -176,7 +176,7 @@ blank_bits (n ∷ ns) = (zero_bits n, blank_bits ns)
 record Good (t : Table) (s : State) : Type 0 where
   known : TrueAt (at t s.at) s.vars
   vars : Bits s.vars
-  arrays : All Bits s.arrays
+  arrays : AllByRecursion Bits s.arrays
   asked : Bits s.asked
 
 -- a run that goes on is at such a state, and one that failed did so where the table licenses nothing

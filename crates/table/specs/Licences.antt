@@ -1,6 +1,6 @@
 -- Licences: tests that a table shows can't fail.
 use Rattle.std.specs.Prelude.{◌≡◌, ℕ, zero, suc, ◌+◌, Bool, true, false, cond, T, List, [], ◌∷◌, ℤ, Some, None, Option}
-use Rattle.std.specs.List.{slice_get, AllByRecursion as All}
+use Rattle.std.specs.List.{slice_get, AllByRecursion}
 use Rattle.number.specs.Numbers.{le_z, in64}
 use Rattle.program.specs.declared.Step.{Step}
 use Rattle.program.specs.Program.{Prog}
@@ -50,11 +50,11 @@ TrueOf t s = (b : Box) × (at t s.at ≡ within b) × InRange b s.vars
 
 -- whatever a table that holds says is true of every state that a run reaches
 abbrev pub TablesTrue : Type 0
-TablesTrue = (s : List ℤ) (p : Prog) (t : Table) (asked : List ℤ) (n : ℕ) (x : State) → Program s p → Holds p t → All (λ z. T (in64 z)) asked → steps n p (begin p asked) ≡ on x → TrueOf t x
+TablesTrue = (s : List ℤ) (p : Prog) (t : Table) (asked : List ℤ) (n : ℕ) (x : State) → Program s p → Holds p t → AllByRecursion (λ z. T (in64 z)) asked → steps n p (begin p asked) ≡ on x → TrueOf t x
 
 -- a licensed test never fails
 abbrev pub NeverFails : Type 0
-NeverFails = (s : List ℤ) (p : Prog) (t : Table) (asked : List ℤ) (n a : ℕ) (x : State) → Program s p → Holds p t → All (λ z. T (in64 z)) asked → steps n p (begin p asked) ≡ fails a x → licensed p t a ≡ false
+NeverFails = (s : List ℤ) (p : Prog) (t : Table) (asked : List ℤ) (n a : ℕ) (x : State) → Program s p → Holds p t → AllByRecursion (λ z. T (in64 z)) asked → steps n p (begin p asked) ≡ fails a x → licensed p t a ≡ false
 
 -- a table that knows more, with proper ranges, licenses whatever the other does
 abbrev pub MoreLicences : Type 0

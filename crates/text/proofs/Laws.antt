@@ -3,7 +3,7 @@ use Rattle.std.proofs.Common.{◌≡◌, ℕ, suc, ◌+◌, ◌-◌, ◌*◌, �
 use Rattle.std.specs.Option.{option_map}
 use Rattle.std.specs.Char.{is_ascii_digit}
 use Rattle.std.specs.Fmt.{signed_decimal}
-use Rattle.std.specs.List.{AllByRecursion as All}
+use Rattle.std.specs.List.{AllByRecursion}
 use Rattle.std.proofs.lemmas.Fmt.{decimal_by_steps}
 use Rattle.std.proofs.lemmas.List.{length_push}
 use Rattle.std.proofs.lemmas.Bool.{ltb-true, cases_lt}
@@ -44,7 +44,7 @@ same_values (b ∷ bs) k i j (inside start bytes) = go (separator b) refl (λ s.
 -- a word, and what follows it
 
 abbrev pub Solid : List ℕ → Type 0
-Solid bs = All (λ b. separator b ≡ false) bs
+Solid bs = AllByRecursion (λ b. separator b ≡ false) bs
 
 over_word : (ds bs : List ℕ) (k : ℕ) (w : List ℕ) (i : ℕ) → Solid ds → values (scan (inside k w) i (ds ++ bs)) ≡ values (scan (inside k (w ++ ds)) i bs)
 over_word [] bs k w i h = ap (λ v. values (scan (inside k v) i bs)) (sym (append-nil w))
@@ -69,9 +69,9 @@ digits_push (b ∷ ds) d m n e h = go (is_ascii_digit b) refl e (λ f. digits_pu
 record Spelled (n : ℕ) (ds : List ℕ) : Type 0 where
   number : digits_on 0 ds ≡ Some n
   some : 0 < length ds
-  digits : All (λ d. is_ascii_digit d ≡ true) ds
+  digits : AllByRecursion (λ d. is_ascii_digit d ≡ true) ds
 
-all_push : (ds : List ℕ) (d : ℕ) → All (λ b. is_ascii_digit b ≡ true) ds → is_ascii_digit d ≡ true → All (λ b. is_ascii_digit b ≡ true) (ds ++ d ∷ [])
+all_push : (ds : List ℕ) (d : ℕ) → AllByRecursion (λ b. is_ascii_digit b ≡ true) ds → is_ascii_digit d ≡ true → AllByRecursion (λ b. is_ascii_digit b ≡ true) (ds ++ d ∷ [])
 all_push [] d h e = (e, tt)
 all_push (b ∷ ds) d h e = (h.0, all_push ds d h.1 e)
 
@@ -92,7 +92,7 @@ spelled = decimal_by_steps Spelled
 digit_solid : (d : ℕ) → is_ascii_digit d ≡ true → (separator d ≡ false) × (eqb d 45 ≡ false)
 digit_solid d h = (grind (arith, nat_tests), grind (arith, nat_tests))
 
-digits_solid : (ds : List ℕ) → All (λ d. is_ascii_digit d ≡ true) ds → Solid ds
+digits_solid : (ds : List ℕ) → AllByRecursion (λ d. is_ascii_digit d ≡ true) ds → Solid ds
 digits_solid [] h = tt
 digits_solid (d ∷ ds) h = ((digit_solid d h.0).0, digits_solid ds h.1)
 

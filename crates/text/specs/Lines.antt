@@ -2,7 +2,7 @@
 use Rattle.std.specs.Prelude.{◌≡◌, ℕ, ◌≤◌, true, List, [], ◌∷◌, ◌++◌, length, take, drop, ℤ, Some, Ok, Err, Result}
 use Rattle.std.specs.Option.{option_map}
 use Rattle.std.specs.Fmt.{signed_decimal}
-use Rattle.std.specs.List.{AllByRecursion as All}
+use Rattle.std.specs.List.{AllByRecursion}
 use Rattle.text.specs.declared.refusal.Refusal.{Refusal}
 use Rattle.text.specs.Numbers.{in64, reading, numbers_of}
 use Rattle.text.specs.Words.{feeds}
@@ -18,7 +18,7 @@ line_of [] = 10 ∷ []
 line_of (z ∷ zs) = signed_decimal z ++ spaced zs
 
 abbrev pub Fit : List ℤ → Type 0
-Fit zs = All (λ z. in64 z ≡ true) zs
+Fit zs = AllByRecursion (λ z. in64 z ≡ true) zs
 
 -- what holds of the meaning of texts
 pub record Parts : Type 0 where
