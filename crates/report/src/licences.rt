@@ -12,11 +12,10 @@ ghost use Rattle.report.specs.Licences.{test_line, line_at, test_lines, good_tex
 use crate::load::explained;
 use message::Error;
 use program::{Counts, Place, Step};
-use std::alloc::Global;
-use std::fmt;
+use std::alloc::{AllocError, Global};
 use words::Words;
 
-fn write_test(out: &mut String, licensed: bool, place: usize, step: Step) -> fmt::Result
+fn write_test(out: &mut String, licensed: bool, place: usize, step: Step) -> Result<(), AllocError>
     ensures { OnOk result (string_bytes out.new ≡ string_bytes out.old ++ test_line licensed place step) }
 {
     if licensed {
@@ -33,7 +32,7 @@ fn write_step(
     table: &[i64],
     place: usize,
     step: Step,
-) -> fmt::Result
+) -> Result<(), AllocError>
     ensures { OnOk result ((p : Prog) (t : Table) → Program rows.now p → vars ≡ p.vars → Full p t → row_t vars t ≡ table.now → slice_get p.code place ≡ Some step → string_bytes out.new ≡ string_bytes out.old ++ line_at p t place step) }
 {
     if !step.has_test() {
@@ -44,7 +43,12 @@ fn write_step(
 }
 
 // A line for each test, in the order of places.
-fn write_tests(out: &mut String, rows: &[i64], counts: Counts, table: &[i64]) -> fmt::Result
+fn write_tests(
+    out: &mut String,
+    rows: &[i64],
+    counts: Counts,
+    table: &[i64],
+) -> Result<(), AllocError>
     requires { (p : Prog) × Program rows.now p × (counts ≡ counts_of p) }
     ensures { OnOk result ((p : Prog) (t : Table) → Program rows.now p → counts ≡ counts_of p → Full p t → row_t p.vars t ≡ table.now → string_bytes out.new ≡ string_bytes out.old ++ test_lines p t 0 p.code) }
 {
@@ -62,7 +66,7 @@ fn write_tests(out: &mut String, rows: &[i64], counts: Counts, table: &[i64]) ->
 }
 
 // What is printed for a table that holds.
-fn good(heap: Global, rows: &[i64], counts: Counts, table: &[i64]) -> Result<String, fmt::Error>
+fn good(heap: Global, rows: &[i64], counts: Counts, table: &[i64]) -> Result<String, AllocError>
     requires { (p : Prog) × Program rows.now p × (counts ≡ counts_of p) }
     ensures { IfOk result (λ out. (p : Prog) (t : Table) → Program rows.now p → counts ≡ counts_of p → Full p t → row_t p.vars t ≡ table.now → string_bytes out ≡ good_text p t) }
 {

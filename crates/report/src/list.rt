@@ -9,8 +9,7 @@ ghost use Rattle.report.specs.Listing.{array_lines, step_lines, listing_of, List
 
 use message::Error;
 use program::{Array, Counts, Refusal};
-use std::alloc::Global;
-use std::fmt;
+use std::alloc::{AllocError, Global};
 use words::Words;
 
 // Why there is no listing.
@@ -20,7 +19,7 @@ enum Unlisted {
     Memory,
 }
 
-fn list_arrays(out: &mut String, rows: &[i64], arrays: usize) -> fmt::Result
+fn list_arrays(out: &mut String, rows: &[i64], arrays: usize) -> Result<(), AllocError>
     requires few { arrays ≤ 16 }
     requires lengths { is_ok (lengths_at rows.now 2 arrays) ≡ true }
     ensures { OnOk result (string_bytes out.new ≡ string_bytes out.old ++ array_lines 0 (result_unwrap_or (lengths_at rows.now 2 arrays) [])) }
@@ -34,7 +33,7 @@ fn list_arrays(out: &mut String, rows: &[i64], arrays: usize) -> fmt::Result
     Ok(())
 }
 
-fn list_steps(out: &mut String, rows: &[i64], counts: Counts) -> fmt::Result
+fn list_steps(out: &mut String, rows: &[i64], counts: Counts) -> Result<(), AllocError>
     requires few { counts.arrays ≤ 16 }
     requires steps { is_ok (steps_at counts rows.now (first counts) counts.steps) ≡ true }
     ensures { OnOk result (string_bytes out.new ≡ string_bytes out.old ++ step_lines 0 (result_unwrap_or (steps_at counts rows.now (first counts) counts.steps) [])) }
@@ -52,7 +51,7 @@ fn list_steps(out: &mut String, rows: &[i64], counts: Counts) -> fmt::Result
     Ok(())
 }
 
-fn write_listing(out: &mut String, rows: &[i64], counts: Counts) -> fmt::Result
+fn write_listing(out: &mut String, rows: &[i64], counts: Counts) -> Result<(), AllocError>
     requires { (p : Prog) × Program rows.now p × (counts ≡ counts_of p) }
     ensures { OnOk result ((p : Prog) × Program rows.now p × (string_bytes out.new ≡ string_bytes out.old ++ listing_of p)) }
 {

@@ -5,11 +5,10 @@ ghost use Rattle.transcript.specs.Transcripts.{number_lines, end_line, Written};
 
 use interpreter::Ran;
 use message::Error;
-use std::alloc::Global;
-use std::fmt;
+use std::alloc::{AllocError, Global};
 
 // A line for each number.
-fn write_numbers(out: &mut String, numbers: &[i64]) -> fmt::Result
+fn write_numbers(out: &mut String, numbers: &[i64]) -> Result<(), AllocError>
     ensures { OnOk result (string_bytes out.new ≡ string_bytes out.old ++ number_lines numbers.now) }
 {
     for k in 0..numbers.len() {
@@ -20,7 +19,7 @@ fn write_numbers(out: &mut String, numbers: &[i64]) -> fmt::Result
 }
 
 // How the run ended, what it showed and how many tests it did.
-fn write_end(out: &mut String, ran: Ran) -> fmt::Result
+fn write_end(out: &mut String, ran: Ran) -> Result<(), AllocError>
     ensures { OnOk result (string_bytes out.new ≡ string_bytes out.old ++ end_line ran) }
 {
     match ran {
@@ -31,15 +30,12 @@ fn write_end(out: &mut String, ran: Ran) -> fmt::Result
     }
 }
 
-fn written(heap: Global, shown: &[i64], ran: Ran) -> Result<String, fmt::Error>
+fn written(heap: Global, shown: &[i64], ran: Ran) -> Result<String, AllocError>
     ensures { IfOk result (λ out. string_bytes out ≡ number_lines shown.now ++ end_line ran) }
 {
     // a number has at most 20 digits and a minus or a line feed each, and the last line fewer than 96 bytes
     let most = shown.len().saturating_mul(21).saturating_add(96);
-    let mut out = match String::with_capacity(heap, most) {
-        Ok(out) => out,
-        Err(_) => return Err(fmt::Error),
-    };
+    let mut out = String::with_capacity(heap, most)?;
     write_numbers(&mut out, shown)?;
     write_end(&mut out, ran)?;
     Ok(out)
