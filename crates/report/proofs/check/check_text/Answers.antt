@@ -22,5 +22,5 @@ returns-in-Ok-from_str c =
       found.2,
       found.4,
       found.5,
-      c.in-Ok-from_str.ensures.made,
+      c.in-Ok-from_str.ensures.ok,
     )

@@ -26,7 +26,7 @@ loop-place-preserved c =
           let vars : counts.vars ≡ p.vars = ap (λ c. c.vars) e in
           let here = walk_step s counts c.loop-place.at k (omega arith) inv.0 p is e i c.in-Ok.next c.in-Ok.ensures in
           line_more (string_bytes c.loop-place.out) (string_bytes c.write_step.new.out) (line_at p t k i) (test_lines p t (k + 1) (drop (k + 1) p.code))
-          (c.in_ok-write_step.ensures p t is vars f (ap (λ v. row_t v t) vars ∙ q) here.0)
+          (c.in_ok-write_step-in-Ok.ensures p t is vars f (ap (λ v. row_t v t) vars ∙ q) here.0)
           ∙ ap (λ is. string_bytes c.loop-place.out ++ test_lines p t k is) (sym here.1)
           ∙ inv.1 p t is e f q,
     )

@@ -25,7 +25,7 @@ loop-k-preserved c =
     let left_here : result_unwrap_or (lengths_at s (2 + k + 1) m) [] ≡ result_unwrap_or (lengths_at s (2 + (k + 1)) m) [] = ap (λ a. result_unwrap_or (lengths_at s a m) []) here in (
       ap (λ a. is_ok (lengths_at s a m)) (sym here) ∙ left.0,
       ap (λ r. string_bytes c.write.new.self ++ array_lines (k + 1) r) (sym left_here)
-          ∙ line_more out (string_bytes c.write.new.self) (array_line k n) (array_lines (k + 1) (result_unwrap_or (lengths_at s (2 + k + 1) m) [])) c.in_ok-write.ensures.bytes
+          ∙ line_more out (string_bytes c.write.new.self) (array_line k n) (array_lines (k + 1) (result_unwrap_or (lengths_at s (2 + k + 1) m) [])) c.in_ok-write-in-Ok.ensures.bytes
           ∙ ap (λ r. out ++ array_lines k r) (sym left.1)
           ∙ c.loop-k.invariant.1,
     )

@@ -19,7 +19,7 @@ loop-place-preserved c =
     let more : c.args.counts.steps - k ≡ suc (c.args.counts.steps - (k + 1)) = omega arith in
     let left = steps_left c.args.counts c.args.rows.now c.loop-place.at _ _ more i c.in-Ok.next c.in-Ok.ensures c.loop-place.invariant.0 in (
       left.2,
-      line_more out (string_bytes c.write.new.self) (step_line k i) _ c.in_ok-write.ensures.bytes
+      line_more out (string_bytes c.write.new.self) (step_line k i) _ c.in_ok-write-in-Ok.ensures.bytes
           ∙ ap (λ r. out ++ step_lines k r) (sym left.3)
           ∙ c.loop-place.invariant.1,
     )
