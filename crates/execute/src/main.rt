@@ -3,7 +3,8 @@
 ghost use Rattle.std.specs.Prelude.{◌≤◌, length, IfOk};
 
 use message::Error;
-use std::{env, io};
+use std::env;
+use std::process::ExitCode;
 
 const USAGE: &str = "execute PROGRAM TABLE STEPS, execute --check PROGRAM TABLE, or execute --help";
 
@@ -165,6 +166,10 @@ fn answer(rt: &HostRuntime) -> Result<String, Error> {
     }
 }
 
-fn main(rt: HostRuntime) -> io::Result<()> {
-    report::finish(&rt, answer(&rt))
+// What is refused is said already, so `main` ends with the status alone.
+fn main(rt: HostRuntime) -> ExitCode {
+    match report::finish(&rt, answer(&rt)) {
+        Ok(()) => ExitCode::SUCCESS,
+        Err(_) => ExitCode::FAILURE,
+    }
 }

@@ -1,7 +1,8 @@
 // Reads a program and prints its listing.
 
 use message::Error;
-use std::{env, io};
+use std::env;
+use std::process::ExitCode;
 
 const USAGE: &str = "ranges [--list] [FILE], or ranges --help";
 
@@ -65,6 +66,10 @@ fn run(rt: &HostRuntime) -> Result<String, Error> {
     }
 }
 
-fn main(rt: HostRuntime) -> io::Result<()> {
-    report::finish(&rt, run(&rt))
+// What is refused is said already, so `main` ends with the status alone.
+fn main(rt: HostRuntime) -> ExitCode {
+    match report::finish(&rt, run(&rt)) {
+        Ok(()) => ExitCode::SUCCESS,
+        Err(_) => ExitCode::FAILURE,
+    }
 }
