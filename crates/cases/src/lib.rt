@@ -1,4 +1,6 @@
 // Cases for the layers below: what each text is answered.
+#![tactic(auto)]
+
 #[cfg(test)]
 mod calls;
 #[cfg(test)]

@@ -1,4 +1,5 @@
 // Runs a program with a table, or checks the table.
+#![tactic(auto)]
 
 ghost use Rattle.std.specs.Prelude.{◌≤◌, length, IfOk};
 

@@ -1,4 +1,6 @@
 // The least table that holds, and going round to it.
+#![tactic(auto)]
+
 mod begin;
 mod guess;
 mod joining;

@@ -1,4 +1,6 @@
 // Runs of programs, with the tests left out that a table licenses.
+#![tactic(auto)]
+
 mod call;
 mod going;
 mod memory;

@@ -1,4 +1,6 @@
 // Ranges for variables, and what a step makes of them.
+#![tactic(auto)]
+
 mod boxes;
 mod range;
 mod tests;

@@ -1,4 +1,6 @@
 // The least table of a program, found.
+#![tactic(auto)]
+
 mod call;
 mod dropping;
 mod going;

@@ -1,4 +1,6 @@
 // One step of a run on lent memory.
+#![tactic(auto)]
+
 mod action;
 mod arrays;
 mod cursor;

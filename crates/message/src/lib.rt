@@ -1,4 +1,5 @@
 // What the command line programs refuse, each in one line.
+#![tactic(auto)]
 
 use interval::Range;
 use program::{Place, Refusal, Step, Var};

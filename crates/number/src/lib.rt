@@ -1,4 +1,6 @@
 // Whole numbers of 64 bits with sign: sums, differences and products that say when they have no place.
+#![tactic(auto)]
+
 mod checked;
 mod wide;
 

@@ -1,4 +1,6 @@
 // Programs of steps, and reading them from rows of numbers.
+#![tactic(auto)]
+
 mod reader;
 mod refusal;
 mod step;

@@ -1,4 +1,5 @@
 // Reads a program and prints its listing.
+#![tactic(auto)]
 
 use message::Error;
 use std::env;

@@ -1,4 +1,6 @@
 // What the command line programs print, and what they refuse.
+#![tactic(auto)]
+
 mod check;
 mod input;
 mod licences;

@@ -1,4 +1,6 @@
 // Tables of ranges for all places, whether they hold, and which tests they license.
+#![tactic(auto)]
+
 mod fault;
 mod licence;
 mod look;

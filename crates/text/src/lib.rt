@@ -1,4 +1,5 @@
 //! Numbers in decimal text with comments, read and written.
+#![tactic(auto)]
 //!
 //! Words are separated by white space, and `#` begins a comment up to the end of the line.
 ghost use Rattle.std.specs.Prelude.{◌≡◌, ◌-◌, ◌<◌, ◌≤◌, true, false, ◌∷◌, ◌++◌, length, drop, string_bytes, OnOk, slice_index, slice_range};

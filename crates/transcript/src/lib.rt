@@ -1,4 +1,6 @@
 // What a run shows, and how it ended, as text.
+#![tactic(auto)]
+
 mod endings;
 mod runs;
 

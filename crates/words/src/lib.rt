@@ -1,4 +1,5 @@
 // Steps in words.
+#![tactic(auto)]
 
 ghost use Rattle.std.specs.Prelude.{Some};
 ghost use Rattle.words.specs.Words.{var_words, array_words, operand_words, step_words};
