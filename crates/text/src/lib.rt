@@ -1,7 +1,8 @@
 //! Numbers in decimal text with comments, read and written.
-#![tactic(auto)]
 //!
 //! Words are separated by white space, and `#` begins a comment up to the end of the line.
+#![tactic(auto)]
+
 ghost use Rattle.std.specs.Prelude.{◌≡◌, ◌-◌, ◌<◌, ◌≤◌, true, false, ◌∷◌, ◌++◌, length, drop, string_bytes, OnOk, slice_index, slice_range};
 ghost use Rattle.std.specs.Option.{option_map, ok_or};
 ghost use Rattle.std.specs.Fmt.{signed_decimal};
