@@ -13,14 +13,14 @@ slice_bounds-lines-end c =
     let fits = within_room c.in-Stopped.k c.run-ran.new.shown found.2.shown found.7 found.8 in
     search (rules, fits)
 
-pub slice_bounds-lines-end_in-Failed : goal.slice_bounds-lines-end_in-Failed
-slice_bounds-lines-end_in-Failed c =
+pub slice_bounds-lines-end-in-Failed : goal.slice_bounds-lines-end-in-Failed
+slice_bounds-lines-end-in-Failed c =
     let found = c.in-Failed.ensures.says in
     let fits = within_room c.in-Failed.k c.run-ran.new.shown found.2.shown found.7 found.8 in
     search (rules, fits)
 
-pub slice_bounds-lines-end_in-More : goal.slice_bounds-lines-end_in-More
-slice_bounds-lines-end_in-More c =
+pub slice_bounds-lines-end-in-More : goal.slice_bounds-lines-end-in-More
+slice_bounds-lines-end-in-More c =
     let found = c.in-More.ensures.says in
     let fits = within_room c.in-More.k c.run-ran.new.shown found.2.shown found.7 found.8 in
     search (rules, fits)
