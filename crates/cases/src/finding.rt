@@ -45,7 +45,7 @@ fn count(rt: HostRuntime) -> Result<(), Fail> {
 
 // The loop that fills an array of 8, and the same with an array of 7, where the store at 7 fails.
 #[test]
-fn fill(rt: HostRuntime) -> Result<(), Fail> {
+fn fill_found(rt: HostRuntime) -> Result<(), Fail> {
     check_found(
         &rt,
         rt.alloc(),

@@ -4,7 +4,7 @@ use crate::licences::{answer, check_licences};
 use std::test::Fail;
 
 #[test]
-fn fill(rt: HostRuntime) -> Result<(), Fail> {
+fn fill_lines(rt: HostRuntime) -> Result<(), Fail> {
     let fill = "1 1 8 5  9 2 1 0 0 8  10  5 0 1 0 1 0  1 0 1 0 0 1  8 0";
     check_licences(
         &rt,
@@ -31,7 +31,7 @@ fn fill(rt: HostRuntime) -> Result<(), Fail> {
 }
 
 #[test]
-fn edges(rt: HostRuntime) -> Result<(), Fail> {
+fn edge_lines(rt: HostRuntime) -> Result<(), Fail> {
     let heap = rt.alloc();
     check_licences(
         &rt,

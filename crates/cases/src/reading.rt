@@ -1,5 +1,7 @@
 // Programs and what is none, each with the listing or the refusal in full.
 
+ghost use Rattle.std.specs.Prelude.{◌≡◌, length};
+
 use crate::printing::print;
 use program::Reason;
 use std::alloc::{AllocError, Global};
@@ -240,10 +242,10 @@ fn cut_off(rt: HostRuntime) -> Result<(), Fail> {
     Ok(())
 }
 
-// As many arrays and steps as there may be, and one more number.
-#[test]
-fn largest(rt: HostRuntime) -> Result<(), Fail> {
-    let mut rows = vec![in rt.alloc(); 0i64; 24596]?;
+// The numbers of the largest program, and one more.
+fn write_largest(rows: &mut [i64])
+    requires { length rows.old ≡ 24596 }
+{
     rows[0] = 64;
     rows[1] = 16;
     for k in 2..18 {
@@ -254,6 +256,13 @@ fn largest(rt: HostRuntime) -> Result<(), Fail> {
         rows[19 + 6 * k] = 9;
         rows[20 + 6 * k] = 4096;
     }
+}
+
+// As many arrays and steps as there may be, and one more number.
+#[test]
+fn largest(rt: HostRuntime) -> Result<(), Fail> {
+    let mut rows = vec![in rt.alloc(); 0i64; 24596]?;
+    write_largest(&mut rows);
     let counts = match program::read(&rows[0..24595]) {
         Ok(counts) => counts,
         Err(_) => return Err(Fail::new("the largest program")),

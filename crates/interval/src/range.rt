@@ -1,7 +1,7 @@
 // Ranges.
 
 ghost use Rattle.std.specs.Prelude.{◌≡◌, ◌≤◌};
-ghost use Rattle.number.specs.Numbers.{least, most};
+ghost use Rattle.number.specs.Numbers.{value_of, least, most};
 ghost use Rattle.interval.specs.Ranges.{any, cut, join, some_left, plus, minus, scaled, inside1};
 ghost use Rattle.interval.specs.Boxes.{left, range_of};
 ghost use Rattle.interval.specs.Tests.{in_bits, in_array};
@@ -143,28 +143,7 @@ impl WideRange {
     pub(crate) fn cut(self) -> Option<Range>
         ensures { result ≡ left (cut (range_of self) any) }
     {
-        let lo = match self.lo.narrow() {
-            Some(z) => z,
-            None => {
-                if !self.lo.negative() {
-                    return None;
-                }
-                i64::MIN
-            }
-        };
-        let hi = match self.hi.narrow() {
-            Some(z) => z,
-            None => {
-                if self.hi.negative() {
-                    return None;
-                }
-                i64::MAX
-            }
-        };
-        if lo > hi {
-            return None;
-        }
-        Some(Range { lo, hi })
+        cut64(self.lo, self.hi)
     }
 
     // Whether neither end leaves 64 bits outward.
@@ -174,4 +153,32 @@ impl WideRange {
         (self.lo.narrow().is_some() || !self.lo.negative())
             && (self.hi.narrow().is_some() || self.hi.negative())
     }
+}
+
+// What is left in 64 bits from one number to another.
+fn cut64(lo: Wide, hi: Wide) -> Option<Range>
+    ensures { result ≡ left (cut (record { lo = value_of lo; hi = value_of hi }) any) }
+{
+    let lo = match lo.narrow() {
+        Some(z) => z,
+        None => {
+            if !lo.negative() {
+                return None;
+            }
+            i64::MIN
+        }
+    };
+    let hi = match hi.narrow() {
+        Some(z) => z,
+        None => {
+            if hi.negative() {
+                return None;
+            }
+            i64::MAX
+        }
+    };
+    if lo > hi {
+        return None;
+    }
+    Some(Range { lo, hi })
 }
