@@ -30,6 +30,8 @@ fn check_found(
 }
 
 // Counts from 0 to 2^62 by 1.
+// Four plain rounds; two sweeps that lower the guess, the second a quiet one, and one that confirms it; one round that brings
+// the stop its range, and a quiet one.
 #[test]
 fn count(rt: HostRuntime) -> Result<(), Fail> {
     let end = 4611686018427387904;
@@ -37,7 +39,7 @@ fn count(rt: HostRuntime) -> Result<(), Fail> {
         &rt,
         rt.alloc(),
         &[1, 0, 4, 9, 2, 1, 0, 0, end, 10, 1, 0, 1, 0, 0, 1, 8, 0],
-        8,
+        9,
         15,
         &[1, 0, end, 1, end, end, 1, 0, end - 1, 1, 1, end, 0, 0, 0],
     )
@@ -52,7 +54,7 @@ fn fill_found(rt: HostRuntime) -> Result<(), Fail> {
         &[
             1, 1, 8, 5, 9, 2, 1, 0, 0, 8, 10, 5, 0, 1, 0, 1, 0, 1, 0, 1, 0, 0, 1, 8, 0,
         ],
-        8,
+        9,
         18,
         &[1, 0, 8, 1, 8, 8, 1, 0, 7, 1, 0, 7, 1, 1, 8, 0, 0, 0],
     )
@@ -66,7 +68,7 @@ fn fill_short(rt: HostRuntime) -> Result<(), Fail> {
         &[
             1, 1, 7, 5, 9, 2, 1, 0, 0, 8, 10, 5, 0, 1, 0, 1, 0, 1, 0, 1, 0, 0, 1, 8, 0,
         ],
-        7,
+        8,
         18,
         &[1, 0, 7, 0, 0, 0, 1, 0, 7, 1, 0, 6, 1, 1, 7, 0, 0, 0],
     )
