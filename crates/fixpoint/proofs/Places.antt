@@ -6,7 +6,7 @@ use Rattle.std.specs.Option.{option_map}
 use Rattle.std.proofs.lemmas.List.{append_assoc, append-nil, drop_all, drop-drop, drop_at}
 use Rattle.std.proofs.lemmas.Slice.{between_is, between-put_mid, take-put_mid_below, drop-put_mid}
 use Rattle.program.specs.declared.Counts.{Counts}
-use Rattle.interval.specs.Ranges.{At, within}
+use Rattle.interval.specs.Ranges.{At}
 use Rattle.table.specs.Tables.{Table, at}
 use Rattle.table.specs.declared.Fault.TheVariants.{Flag, Blank}
 use Rattle.table.specs.Looking.{not_zero, row_fault}

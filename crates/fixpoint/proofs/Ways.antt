@@ -9,7 +9,6 @@ use Rattle.interval.proofs.Order.{order}
 use Rattle.interval.proofs.Monotone.{at_least_trans}
 use Rattle.table.specs.Tables.{Table, at, zeros}
 use Rattle.fixpoint.specs.Least.{Below, ProperT, BitsT}
-use Rattle.fixpoint.specs.Rounds.{start}
 use Rattle.fixpoint.specs.Ways.{Leads, begin, rounded, confirmed, spent, GuessSound, GuessNoMore, WaySound, WayLast}
 use Rattle.fixpoint.proofs.Sweeps.{start_sound, round_sound, round_last}
 use Rattle.fixpoint.proofs.Room.{no_more}

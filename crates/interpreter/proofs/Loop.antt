@@ -1,8 +1,8 @@
 -- What the loop over the steps of a run goes by.
-use Rattle.std.proofs.Common.{◌≡◌, ℕ, zero, suc, ◌+◌, ◌-◌, ◌<◌, ◌≤◌, min, Bool, true, false, cond, T, List, [], ◌∷◌, ◌++◌, length, get_or, take, drop, replicate, ℤ, pos, Some, None, Option, sym, refl, ap, ◌∙◌, subst, ap₂, ⊎_elim, arith}
+use Rattle.std.proofs.Common.{◌≡◌, ℕ, ◌+◌, ◌-◌, ◌<◌, ◌≤◌, min, Bool, true, false, cond, T, List, [], ◌∷◌, ◌++◌, length, get_or, take, drop, replicate, ℤ, pos, Some, None, sym, refl, ap, ◌∙◌, subst, ap₂, ⊎_elim, arith}
 use Rattle.std.specs.List.{slice_get, AllByRecursion}
 use Rattle.std.proofs.lemmas.List.{length-take, length-replicate, replicate-append-replicate, take_at, drop_at}
-use Rattle.std.proofs.lemmas.Option.{slice_get-get_or, slice_get_past}
+use Rattle.std.proofs.lemmas.Option.{slice_get-get_or}
 use Rattle.std.proofs.lemmas.Bool.{cases_lt}
 use Rattle.number.specs.Numbers.{in64}
 use Rattle.program.specs.declared.Step.{Step}
@@ -10,7 +10,7 @@ use Rattle.program.specs.declared.Step.TheVariants.{Set, Add, Sub, Mul, Load, St
 use Rattle.program.specs.Program.{Prog, total, counts_of}
 use Rattle.program.specs.Rows.{row_i, Program}
 use Rattle.program.specs.Reading.{width, first}
-use Rattle.program.specs.Runs.{State, Run, on, stopped, fails, has_test, act, act_or, steps, begin, blank}
+use Rattle.program.specs.Runs.{State, Run, on, stopped, fails, act, act_or, steps, begin, blank}
 use Rattle.interval.specs.Ranges.{Box, At, never, within}
 use Rattle.interval.specs.Tests.{sure}
 use Rattle.table.specs.Tables.{Table, at, words_of, Holds}

@@ -1,9 +1,9 @@
 -- What is promised of each answer.
-use Rattle.std.proofs.Common.{◌≡◌, ℕ, ◌<◌, ◌≤◌, ◌↔◌, List, length, take, drop, ℤ, Err, sym, refl, ap, ◌∙◌, subst, arith}
+use Rattle.std.proofs.Common.{◌≡◌, ℕ, ◌<◌, ◌≤◌, List, length, take, drop, ℤ, Err, sym, refl, ap, ◌∙◌, subst, arith}
 use Rattle.std.proofs.lemmas.List.{length-take}
 use Rattle.program.specs.Program.{Prog}
 use Rattle.program.specs.Rows.{Program}
-use Rattle.program.specs.Runs.{State, Run, on, stopped, fails, steps, begin}
+use Rattle.program.specs.Runs.{Run, on, stopped, fails, steps, begin}
 use Rattle.program.proofs.Whole.{one_program}
 use Rattle.table.specs.Tables.{Table, Holds}
 use Rattle.table.specs.Rows.{row_t}

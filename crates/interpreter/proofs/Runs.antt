@@ -1,5 +1,5 @@
 -- Runs of many steps.
-use Rattle.std.proofs.Common.{◌≡◌, ℕ, zero, suc, ◌+◌, ◌-◌, ◌≤◌, Bool, true, false, cond, T, List, [], ◌∷◌, ◌++◌, length, ℤ, Some, None, Option, sym, refl, ap, ◌∙◌, subst, add_assoc, zero-add, arith, length-append}
+use Rattle.std.proofs.Common.{◌≡◌, ℕ, zero, suc, ◌+◌, ◌-◌, ◌≤◌, Bool, true, false, cond, T, List, [], ◌∷◌, length, ℤ, Some, None, Option, sym, refl, ap, ◌∙◌, subst, add_assoc, zero-add, arith, length-append}
 use Rattle.std.specs.List.{slice_get, AllByRecursion}
 use Rattle.std.proofs.lemmas.Bool.{false≢true}
 use Rattle.number.specs.Numbers.{in64, less_z}
@@ -7,7 +7,7 @@ use Rattle.program.specs.declared.Step.{Step}
 use Rattle.program.specs.declared.Step.TheVariants.{Set, Add, Sub, Mul, Load, Store, Ask, Show, Go, Less, Stop}
 use Rattle.program.specs.Program.{Prog}
 use Rattle.program.specs.Rows.{Program}
-use Rattle.program.specs.Runs.{State, Run, on, stopped, fails, value, words, index_of, next, to, tested, act, act_or, step, steps, begin}
+use Rattle.program.specs.Runs.{State, Run, on, stopped, fails, value, to, act, act_or, step, steps, begin}
 use Rattle.table.specs.Tables.{Table, Holds}
 use Rattle.table.specs.Licences.{licensed, tests1, tests}
 use Rattle.table.proofs.Truth.{never_fails}

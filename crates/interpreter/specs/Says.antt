@@ -1,5 +1,5 @@
 -- What a run promises, with the theorems that hold of it.
-use Rattle.std.specs.Prelude.{◌≡◌, ℕ, ◌+◌, ◌<◌, ◌≤◌, ◌↔◌, List, length, take, drop, ℤ}
+use Rattle.std.specs.Prelude.{◌≡◌, ℕ, ◌<◌, ◌≤◌, ◌↔◌, List, length, take, drop, ℤ}
 use Rattle.program.specs.Program.{Prog}
 use Rattle.program.specs.Rows.{Program}
 use Rattle.program.specs.Says.{OneProgram}
@@ -10,7 +10,7 @@ use Rattle.table.specs.Licences.{tests, TablesTrue, NeverFails}
 use Rattle.table.specs.Says.{OneTable, LookingOnce}
 use Rattle.interpreter.specs.declared.ran.Ran.{Ran}
 use Rattle.interpreter.specs.declared.ran.Ran.TheVariants.{Stopped, Failed, More, BadTable, Unread, OutFull, Small}
-use Rattle.interpreter.specs.Ending.{shown_by, answer_of, Overflows, needs}
+use Rattle.interpreter.specs.Ending.{answer_of, Overflows, needs}
 
 -- the rows of a program, a table, the numbers handed in, n steps at most; o and o' are the room for what is shown, before and
 -- after

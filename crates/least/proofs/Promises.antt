@@ -1,17 +1,14 @@
 -- What is promised of each answer.
-use Rattle.std.proofs.Common.{◌≡◌, ℕ, ◌+◌, ◌*◌, ◌<◌, ◌≤◌, ◌⊎◌, ◌↔◌, List, length, take, drop, ℤ, sym, refl, ap, ◌∙◌, subst, inl, inr, arith}
+use Rattle.std.proofs.Common.{◌≡◌, ℕ, ◌+◌, ◌*◌, ◌<◌, ◌≤◌, ◌⊎◌, List, length, take, drop, ℤ, sym, refl, ap, ◌∙◌, subst, inl, inr, arith}
 use Rattle.program.specs.declared.Counts.{Counts}
 use Rattle.program.specs.Program.{Prog, counts_of}
 use Rattle.program.specs.Rows.{Program}
 use Rattle.program.proofs.Whole.{one_program}
-use Rattle.interval.specs.Laws.{ProperAt}
-use Rattle.table.specs.Tables.{Table, at, Holds}
 use Rattle.table.specs.Rows.{row_t, wants}
 use Rattle.table.proofs.Rows.{one_table}
 use Rattle.table.proofs.Looks.{looking_once}
 use Rattle.table.proofs.Truth.{tables_true, never_fails}
 use Rattle.table.proofs.Licensing.{more_licences}
-use Rattle.fixpoint.specs.Least.{Least}
 use Rattle.fixpoint.specs.Joining.{table_in}
 use Rattle.fixpoint.proofs.Leasts.{has_least, one_least, least_in_bits, least_sound, way_ends}
 use Rattle.fixpoint.proofs.Guesses.{guess_right}
@@ -20,7 +17,7 @@ use Rattle.fixpoint.proofs.Cases.{least_worked}
 use Rattle.least.specs.declared.call.Found.{Found}
 use Rattle.least.specs.declared.call.Found.TheVariants.{Ranges, NoProgram, Few}
 use Rattle.least.specs.Going.{Ended}
-use Rattle.least.specs.Says.{FoundSays, wants_of, LicencesMost, Parts, FoundPost}
+use Rattle.least.specs.Says.{wants_of, LicencesMost, Parts, FoundPost}
 
 licences_most : LicencesMost
 licences_most s p t u n is h k = more_licences p t u n (h.least u k n) ((least_sound s p t is h).proper n)

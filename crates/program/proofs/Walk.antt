@@ -1,5 +1,5 @@
 -- A walk over the steps of a program: the row of the k-th step begins at an offset.
-use Rattle.std.proofs.Common.{◌≡◌, ℕ, zero, suc, ◌+◌, ◌-◌, ◌<◌, List, [], ◌∷◌, drop, ℤ, Some, Ok, Err, Result, sym, refl, ap, ◌∙◌, arith}
+use Rattle.std.proofs.Common.{◌≡◌, ℕ, zero, suc, ◌+◌, ◌-◌, ◌<◌, List, [], ◌∷◌, drop, ℤ, Some, Ok, Err, Result, sym, ap, ◌∙◌, arith}
 use Rattle.std.specs.List.{slice_get}
 use Rattle.program.specs.declared.step.Step.{Step}
 use Rattle.program.specs.declared.reader.Counts.{Counts}

@@ -6,7 +6,6 @@ use Rattle.program.specs.declared.Step.{Step}
 use Rattle.program.specs.Program.{Prog}
 use Rattle.program.specs.Rows.{Program}
 use Rattle.program.specs.Runs.{State, Run, on, stopped, fails, has_test, step, steps, begin}
-use Rattle.interval.specs.declared.Range.{Range}
 use Rattle.interval.specs.Ranges.{Box, At, never, within, AtLeast}
 use Rattle.interval.specs.Tests.{sure}
 use Rattle.interval.specs.Laws.{ProperAt}

@@ -1,10 +1,10 @@
 -- The text of a run that came to an end.
-use Rattle.std.proofs.Common.{◌≡◌, ℕ, ◌-◌, ◌≤◌, List, ◌++◌, length, take, ℤ, Ok, Err, Result, String, sym, refl, ap, ◌∙◌, subst, arith}
+use Rattle.std.proofs.Common.{◌≡◌, ℕ, ◌-◌, ◌≤◌, List, ◌++◌, length, take, ℤ, Ok, Err, Result, String, sym, ap, ◌∙◌, subst, arith}
 use Rattle.std.specs.declared.alloc.Global.{Global}
 use Rattle.std.proofs.lemmas.List.{length-take}
 use Rattle.program.specs.Program.{Prog}
 use Rattle.program.specs.Rows.{Program}
-use Rattle.program.specs.Runs.{Run, State, on, stopped, fails, steps, begin}
+use Rattle.program.specs.Runs.{Run, steps, begin}
 use Rattle.table.specs.Tables.{Table, Holds}
 use Rattle.table.specs.Rows.{row_t}
 use Rattle.table.specs.Licences.{tests}

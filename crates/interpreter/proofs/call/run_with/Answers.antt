@@ -1,4 +1,4 @@
-use Rattle.std.proofs.Common.{◌≡◌, ap, ◌∙◌}
+use Rattle.std.proofs.Common.{ap, ◌∙◌}
 use Rattle.program.specs.Program.{counts_of}
 use Rattle.program.specs.Reading.{first}
 use Rattle.program.proofs.Whole.{one_program}

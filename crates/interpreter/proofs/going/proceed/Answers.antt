@@ -1,4 +1,4 @@
-use Rattle.std.proofs.Common.{◌≡◌, ◌+◌, ◌-◌, ◌<◌, ◌≤◌, length, take, drop, sym, refl, ap, ◌∙◌, subst, arith, w64}
+use Rattle.std.proofs.Common.{◌≡◌, ◌+◌, ◌-◌, length, sym, refl, ap, ◌∙◌, subst, arith, w64}
 use Rattle.std.proofs.lemmas.Option.{slice_get_past}
 use Rattle.std.proofs.lemmas.Int.{to_z-of_z}
 use Rattle.program.specs.Program.{total}
@@ -6,7 +6,6 @@ use Rattle.program.proofs.Whole.{one_program}
 use Rattle.program.proofs.Within.{nth_within}
 use Rattle.table.proofs.Nothing.{nth-ok_i}
 use Rattle.machine.specs.Marks.{sure_of, offset_of}
-use Rattle.machine.specs.Layout.{state_of}
 use Rattle.machine.proofs.Marking.{length_marks}
 use Rattle.interpreter.specs.declared.ran.Ran.TheVariants.{Stopped, Failed, More}
 use Rattle.interpreter.specs.Ending.{Ends}

@@ -1,11 +1,9 @@
-use Rattle.std.proofs.Common.{◌≡◌, ◌+◌, ◌^◌, ◌<◌, ◌≤◌, [], ◌∷◌, ◌++◌, length, get_or, take, drop, pos, sym, refl, ap, ◌∙◌, subst, arith, w64, to_z, rules}
+use Rattle.std.proofs.Common.{◌≡◌, ◌+◌, ◌^◌, ◌<◌, ◌≤◌, ◌∷◌, ◌++◌, length, get_or, take, drop, pos, sym, refl, ap, ◌∙◌, subst, arith, w64, to_z, rules}
 use Rattle.std.proofs.lemmas.Int.{to_z_pos}
 use Rattle.std.proofs.lemmas.List.{drop_all, drop_more, take_all, append-nil}
 use Rattle.std.proofs.lemmas.Option.{slice_get-get_or}
 use Rattle.std.proofs.lemmas.Bool.{leb-true}
 use Rattle.program.specs.declared.Field.TheVariants.{Length}
-use Rattle.program.specs.Program.{Prog}
-use Rattle.program.specs.Rows.{Program}
 use Rattle.program.proofs.Results.{T_true, ok_same, err_not_ok, index_was}
 use Rattle.program.proofs.Whole.{few_arrays, one_program}
 use Rattle.machine.specs.Layout.{starts_from}

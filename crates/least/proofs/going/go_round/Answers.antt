@@ -1,4 +1,4 @@
-use Rattle.std.proofs.Common.{◌≡◌, true, false, sym, ap, ◌∙◌, subst}
+use Rattle.std.proofs.Common.{sym, ap, ◌∙◌, subst}
 use Rattle.table.specs.Rows.{row_t}
 use Rattle.fixpoint.specs.Joining.{table_in}
 use Rattle.least.specs.Going.{Came}

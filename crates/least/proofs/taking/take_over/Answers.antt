@@ -1,4 +1,4 @@
-use Rattle.std.proofs.Common.{◌≡◌, ◌+◌, ◌<◌, ◌≤◌, length, refl, ◌∙◌, arith}
+use Rattle.std.proofs.Common.{◌+◌, ◌<◌, ◌≤◌, length, refl, ◌∙◌, arith}
 use Rattle.table.proofs.Rows.{length-table_of}
 use Rattle.fixpoint.specs.Joining.{table_in}
 use Rattle.least.proofs.Mixed.{mixed_more, mixed_all}

@@ -1,4 +1,4 @@
-use Rattle.std.proofs.Common.{take, Err, sym, ◌∙◌, subst}
+use Rattle.std.proofs.Common.{take, Err, ◌∙◌, subst}
 use Rattle.table.specs.Says.{CheckSays}
 use Rattle.report.proofs.Texts.{front, taken_front, fits_room, not_loaded}
 use Rattle.report.proofs.load.load_table.Goals as goal

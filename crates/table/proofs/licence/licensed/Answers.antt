@@ -3,7 +3,6 @@ use Rattle.std.proofs.lemmas.List.{take_rest}
 use Rattle.interval.specs.Ranges.{never, within}
 use Rattle.interval.specs.Boxes.{box_of}
 use Rattle.interval.specs.Tests.{sure}
-use Rattle.table.specs.Tables.{words_of}
 use Rattle.table.specs.Rows.{place_of}
 use Rattle.table.proofs.Nothing.{nth-ok_i}
 use Rattle.table.proofs.Loops.{place_known, place_never}
