@@ -71,7 +71,9 @@ fn asked(rt: &HostRuntime) -> Result<Call, Error> {
     match (first.as_str(), second, third) {
         ("--help", None, None) => Ok(Call::Help),
         ("--check", Some(program), Some(table)) => Ok(Call::Check(program, table)),
-        (_, Some(table), Some(count)) => Ok(Call::Run(first, table, steps(count)?)),
+        (word, Some(table), Some(count)) if !word.starts_with("--") => {
+            Ok(Call::Run(first, table, steps(count)?))
+        }
         _ => Err(Error::Usage(USAGE)),
     }
 }
