@@ -41,7 +41,7 @@ fn confirm(rows: &[i64], table: &[i64], guess: &[i64], moved: &mut [i64]) -> Opt
 }
 
 #[test]
-fn fill(rt: HostRuntime) {
+fn fill_sweeps(rt: HostRuntime) {
     let rows = [
         1i64, 1, 8, 5, 9, 2, 1, 0, 0, 8, 10, 5, 0, 1, 0, 1, 0, 1, 0, 1, 0, 0, 1, 8, 0,
     ];
