@@ -117,7 +117,7 @@ fn sweep(
     requires guess { length guess.now ≡ wants counts }
     requires made { length made.old ≡ 2 * counts.vars }
     requires grown { length grown.old ≡ 2 * counts.vars }
-    ensures { (p : Prog) → Program rows.now p → counts ≡ counts_of p → record { table = table_in counts table.exit.now; moved = result } ≡ confirm_sweep p (table_in counts guess.now) (table_in counts table.entry.now) }
+    ensures { (p : Prog) → Program rows.now p → counts ≡ counts_of p → record { table = table_in counts table.new; moved = result } ≡ confirm_sweep p (table_in counts guess.now) (table_in counts table.old) }
 {
     let mut moved = false;
     let mut at = 3 + counts.arrays;

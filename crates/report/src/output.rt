@@ -5,7 +5,7 @@ ghost use Rattle.std.specs.Prelude.{◌≡◌, true, is_err};
 use message::Error;
 use std::io;
 
-// Prints the text; or the error in one line on standard error, and then `main` is to end with it.
+// Prints the text; or the error in one line on standard error, and then `main` is to end with status 1.
 pub fn finish(rt: &HostRuntime, res: Result<String, Error>) -> io::Result<()>
     ensures { is_err res ≡ true → is_err result ≡ true }
 {
