@@ -9,7 +9,7 @@ use Rattle.program.specs.declared.Step.TheVariants.{Set, Add, Sub, Mul, Load, St
 use Rattle.program.specs.Rows.{row_v, row_i}
 use Rattle.program.specs.Reading.{variable}
 use Rattle.program.proofs.Results.{drop-next}
-use Rattle.program.proofs.Steps.{length-row_v}
+use Rattle.program.proofs.OneStep.{length-row_v}
 use Rattle.program.proofs.Whole.{length-row_i}
 use Rattle.program.proofs.Loops.{width_some}
 use Rattle.machine.specs.Fetching.{row_n, row_two, Begins, Fetched}

@@ -1,6 +1,6 @@
 -- The laws of reading.
 pub mod Results
-pub mod Steps
+pub mod OneStep
 pub mod Whole
 pub mod Within
 pub mod Loops

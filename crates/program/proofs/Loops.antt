@@ -28,6 +28,19 @@ width_some (Go t) = omega arith
 width_some (Less a b t) = omega arith
 width_some Stop = omega arith
 
+pub width_few : (i : Step) → width i ≤ 6
+width_few (Set x e) = omega arith
+width_few (Add x a b) = omega arith
+width_few (Sub x a b) = omega arith
+width_few (Mul x z e) = omega arith
+width_few (Load x a e) = omega arith
+width_few (Store a e f) = omega arith
+width_few (Ask x) = omega arith
+width_few (Show e) = omega arith
+width_few (Go t) = omega arith
+width_few (Less a b t) = omega arith
+width_few Stop = omega arith
+
 -- a step's row lies within the rows
 pub step_at_ends : (c : Counts) (s : List ℤ) (at : ℕ) (i : Step) → step_at c s at ≡ Ok i → at + width i ≤ length s
 step_at_ends c s at i e =

@@ -6,8 +6,10 @@ use Rattle.program.specs.declared.reader.Counts.{Counts}
 use Rattle.program.specs.declared.refusal.Refusal.{Refusal}
 use Rattle.program.specs.Program.{Prog, counts_of, counts_by}
 use Rattle.program.specs.declared.refusal.Reason.TheVariants.{Extra}
-use Rattle.program.specs.Reading.{and_then, refused, steps_at, widths, Head, head_in, head_counts, counts_in, end_in, first, ended, decode}
-use Rattle.program.specs.Says.{Parts, ReadPost}
+use Rattle.program.specs.Reading.{and_then, refused, steps_at, widths, Head, head_in, head_counts, counts_in, end_in, first, ended, decode, nothing, program_in}
+use Rattle.std.specs.Result.{result_unwrap_or}
+use Rattle.program.specs.Rows.{Program}
+use Rattle.program.specs.Says.{Parts, Refused, ReadPost}
 use Rattle.program.proofs.Results.{T_true, ok_same, err_not_ok, then_was}
 use Rattle.program.proofs.Whole.{head_was, steps_at_was, decode_reads, decode_was, one_program, offsets_begin}
 
@@ -17,12 +19,25 @@ parts = record { one_program = one_program; offsets_begin = offsets_begin }
 abbrev pub found : List ℤ → Result Counts Refusal
 found s = and_then (decode s) (λ p. Ok (counts_of p))
 
-pub read_post : (s : List ℤ) (r : Result Counts Refusal) → r ≡ found s → ReadPost s r
-read_post s r e = subst (ReadPost s) (sym e) (go (decode s) refl)
+-- counts that were found are those of the program that the rows are
+pub found_ok : (s : List ℤ) (c : Counts) → Ok c ≡ found s → Program s (program_in s) × (c ≡ counts_of (program_in s))
+found_ok s c e = go (decode s) refl e
   where
-    go : (d : Result Prog Refusal) → decode s ≡ d → ReadPost s (and_then d (λ p. Ok (counts_of p)))
-    go (Ok p) q = record { says = (p, decode_was s p q, refl); parts = parts }
-    go (Err f) q = record { says = (λ p is. err_not_ok f p (sym q ∙ decode_reads s p is), q); parts = parts }
+    go : (d : Result Prog Refusal) → decode s ≡ d → Ok c ≡ and_then d (λ p. Ok (counts_of p)) → Program s (program_in s) × (c ≡ counts_of (program_in s))
+    go (Ok p) q e =
+        let same : p ≡ program_in s = sym (ap (λ r. result_unwrap_or r nothing) q) in
+        (decode_was s (program_in s) (q ∙ ap Ok same), ok_same {E = Refusal} _ _ e ∙ ap counts_of same)
+    go (Err f) q e = absurd (err_not_ok f c (sym e))
+
+-- a refusal
+pub found-err : (s : List ℤ) (f : Refusal) → Err f ≡ found s → ReadPost s (Err f)
+found-err s f e = record { says = go (decode s) refl e; parts = parts }
+  where
+    go : (d : Result Prog Refusal) → decode s ≡ d → Err f ≡ and_then d (λ p. Ok (counts_of p)) → Refused s f
+    go (Ok p) q e = absurd (err_not_ok f (counts_of p) e)
+    go (Err g) q e =
+        let same : g ≡ f = cc in
+        (λ p is. err_not_ok g p (sym q ∙ decode_reads s p is), q ∙ ap Err same)
 
 -- the order in which `read` goes
 module _ (s : List ℤ) where

@@ -1,7 +1,7 @@
 -- Whole programs: their rows are read as that program, and what is read as a program was its rows.
-use Rattle.std.proofs.Common.{◌≡◌, ℕ, zero, suc, ◌+◌, ◌*◌, ◌≤◌, min, ◌&&◌, T, eqb, leb, List, [], ◌∷◌, ◌++◌, length, drop, ℤ, pos, Some, Ok, Err, Result, sym, refl, ap, ◌∙◌, subst, add-zero, add_assoc, arith}
+use Rattle.std.proofs.Common.{◌≡◌, ℕ, zero, suc, ◌+◌, ◌-◌, ◌*◌, ◌<◌, ◌≤◌, min, ◌&&◌, T, eqb, leb, List, [], ◌∷◌, ◌++◌, length, get_or, take, drop, ℤ, pos, Some, Ok, Err, Result, sym, refl, ap, ◌∙◌, subst, add-zero, add_assoc, arith}
 use Rattle.std.specs.List.{slice_get}
-use Rattle.std.proofs.lemmas.List.{append_assoc, length-append, append-nil, drop_all, drop-drop, drop_at}
+use Rattle.std.proofs.lemmas.List.{take_at, get_or-drop, append_assoc, length-append, append-nil, drop_all, drop-drop, drop_at}
 use Rattle.std.proofs.lemmas.Bool.{leb-true, eqb-true, eq-eqb}
 use Rattle.program.specs.declared.step.Step.{Step}
 use Rattle.program.specs.declared.step.Step.TheVariants.{Set, Add, Sub, Mul, Load, Store, Ask, Show, Go, Less, Stop}
@@ -14,7 +14,7 @@ use Rattle.program.specs.Program.{Prog, total, counts_of, counts_by}
 use Rattle.program.specs.Rows.{row_v, row_i, row_is, nats, row_p, ok_i, ok_is, small, Program}
 use Rattle.program.specs.Reading.{and_then, index_in, step_in, width, widths, moved, step_at, steps_at, lengths_at, Head, head_in, head_counts, first, ended, decode, offsets_of}
 use Rattle.program.proofs.Results.{T_true, both, both-T, ok_same, then_by, then_was, cond_was, err_not_ok, nth_drop, drop_nth, drop-next, index_reads, index_was}
-use Rattle.program.proofs.Steps.{step_reads, step_was, length-row_v}
+use Rattle.program.proofs.OneStep.{step_reads, step_was, length-row_v}
 
 pair_length : (a b : Operand) → suc (suc (length (row_v a ++ row_v b))) ≡ 6
 pair_length a b = ap (λ n. suc (suc n)) (length-append (row_v a) (row_v b) ∙ rw (length-row_v a, length-row_v b) refl)
@@ -212,6 +212,11 @@ few_steps s p is = leb-true _ 4096 (T_true _ (fine s p is).0.3)
 pub steps_found : (s : List ℤ) (p : Prog) (k : Counts) → Program s p → k ≡ counts_of p → steps_at k s (first k) k.steps ≡ Ok p.code
 steps_found s p k is e = subst (λ k. steps_at k s (first k) k.steps ≡ Ok p.code) (sym e) (steps_are s p is)
 
+pub all_steps : (s : List ℤ) (p : Prog) (k : Counts) → Program s p → k ≡ counts_of p → steps_at k s (first k) (k.steps - 0) ≡ Ok p.code
+all_steps s p k is e =
+    let none : k.steps - 0 ≡ k.steps = omega arith in
+    ap (steps_at k s (first k)) none ∙ steps_found s p k is e
+
 pub arrays_found : (s : List ℤ) (p : Prog) (k : Counts) → Program s p → k ≡ counts_of p → k.arrays ≤ 16
 arrays_found s p k is e = subst (λ k. k.arrays ≤ 16) (sym e) (few_arrays s p is)
 
@@ -272,3 +277,17 @@ length_reads s p a n is h = go p.arrays s 2 _ a (fine s p is).0.2 (ap (drop 2) (
     go (m ∷ ns) s at t (suc a) ok e h =
         let next : at + 1 + a ≡ at + suc a = omega arith in
         subst (λ k. index_in s k Length ≡ Ok n) next (go ns s (at + 1) t a (both (leb m 65536) (small ns) ok).1 (drop-next s at 1 (pos m ∷ []) (nats ns ++ t) e refl) h)
+
+-- the lengths as they stand in the rows
+pub arrays_are : (s : List ℤ) (p : Prog) → Program s p → take (length p.arrays) (drop 2 s) ≡ nats p.arrays
+arrays_are s p is = ap (λ r. take (length p.arrays) (drop 2 r)) (sym is.rows) ∙ take_at (nats p.arrays) _ (length p.arrays) (length-nats p.arrays)
+
+pub array_at : (s : List ℤ) (p : Prog) (a : ℕ) → Program s p → a < length p.arrays → (get_or s (2 + a) (pos 0) ≡ pos (get_or p.arrays a 0)) × (get_or p.arrays a 0 ≤ 65536)
+array_at s p a is l =
+    let u = go p.arrays _ a (fine s p is).0.2 l in
+    (sym (get_or-drop 2 s a (pos 0)) ∙ ap (λ r. get_or (drop 2 r) a (pos 0)) (sym is.rows) ∙ u.0, u.1)
+  where
+    go : (ns : List ℕ) (t : List ℤ) (a : ℕ) → T (small ns) → a < length ns → (get_or (nats ns ++ t) a (pos 0) ≡ pos (get_or ns a 0)) × (get_or ns a 0 ≤ 65536)
+    go [] t a ok l = absurd (omega arith)
+    go (n ∷ ns) t zero ok l = (refl, leb-true n 65536 (T_true _ (both (leb n 65536) (small ns) ok).0))
+    go (n ∷ ns) t (suc a) ok l = go ns t a (both (leb n 65536) (small ns) ok).1 (omega arith)

@@ -18,3 +18,8 @@ counts_by vars arrays steps = record { vars = vars; arrays = length arrays; word
 
 abbrev pub counts_of : Prog → Counts
 counts_of p = counts_by p.vars p.arrays (length p.code)
+
+-- the place that comes next, and the steps from it on
+pub record Ahead : Type 0 where
+  pub place : ℕ
+  pub steps : List Step

@@ -1,8 +1,10 @@
 -- What reading rows answers: the program, or the first number that can't be, with what is wrong with it.
-use Rattle.std.specs.Prelude.{ℕ, zero, suc, ◌+◌, min, Bool, true, cond, ◌&&◌, List, [], ◌∷◌, length, drop, ℤ, pos, negsuc, Some, None, Ok, Err, Option, Result, ◌==◌, nat_le, nat_lt}
+use Rattle.std.specs.Prelude.{◌≡◌, ℕ, zero, suc, ◌+◌, min, Bool, true, cond, ◌&&◌, List, [], ◌∷◌, length, drop, ℤ, pos, negsuc, Some, None, Ok, Err, Option, Result, ◌==◌, nat_le, nat_lt}
 use Rattle.std.specs.List.{slice_get}
+use Rattle.std.specs.Result.{result_unwrap_or}
 use Rattle.program.specs.declared.step.Step.{Step}
 use Rattle.program.specs.declared.step.Step.TheVariants.{Set, Add, Sub, Mul, Load, Store, Ask, Show, Go, Less, Stop}
+use Rattle.program.specs.declared.step.Place.{Place as PlaceT}
 use Rattle.program.specs.declared.step.Operand.{Operand}
 use Rattle.program.specs.declared.step.Var.{Var as VarT}
 use Rattle.program.specs.declared.step.Operand.TheVariants.{Num, Var}
@@ -13,7 +15,7 @@ use Rattle.program.specs.declared.refusal.Reason.TheVariants.{Missing, Outside, 
 use Rattle.program.specs.declared.refusal.Refusal.{Refusal}
 use Rattle.number.specs.Numbers.{in64}
 use Rattle.program.specs.declared.reader.Counts.{Counts}
-use Rattle.program.specs.Program.{Prog, total, counts_by}
+use Rattle.program.specs.Program.{Prog, Ahead, total, counts_by}
 
 abbrev pub allows : Field → ℕ → Bool
 allows Variables n = nat_le 1 n && nat_le n 64
@@ -169,3 +171,18 @@ decode s =
 abbrev pub offsets_of : ℕ → List Step → List ℤ
 offsets_of at [] = []
 offsets_of at (i ∷ is) = pos at ∷ offsets_of (at + width i) is
+
+-- the program that rows are, where they are one; so many steps, where they are there
+abbrev pub nothing : Prog
+nothing = record { vars = 0; arrays = []; code = [] }
+
+abbrev pub program_in : List ℤ → Prog
+program_in s = result_unwrap_or (decode s) nothing
+
+abbrev pub steps_from : Counts → List ℤ → ℕ → ℕ → List Step
+steps_from c s at n = result_unwrap_or (steps_at c s at n) []
+
+-- What an iterator over steps with their places gives from `s`, which leaves `t`.
+abbrev pub GivesStep : Ahead → Option (PlaceT × Step) → Ahead → Type 0
+GivesStep s None t = (s.steps ≡ []) × (t ≡ s)
+GivesStep s (Some x) t = (s.steps ≡ x.1 ∷ t.steps) × (x.0.0 ≡ s.place) × (t.place ≡ s.place + 1)

@@ -65,3 +65,7 @@ small (n ∷ ns) = nat_le n 65536 && small ns
 pub record Program (s : List ℤ) (p : Prog) : Type 0 where
   pub rows : row_p p ≡ s
   pub fine : T (nat_le 1 p.vars && (nat_le p.vars 64 && (nat_le (length p.arrays) 16 && (small p.arrays && (nat_le (length p.code) 4096 && ok_is (counts_of p) p.code)))))
+
+-- a program that some rows are
+abbrev pub IsProgram : Prog → Type 0
+IsProgram p = Program (row_p p) p

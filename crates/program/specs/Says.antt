@@ -26,11 +26,11 @@ pub record Parts : Type 0 where
 abbrev pub Refused : List ℤ → Refusal → Type 0
 Refused s f = ((p : Prog) → Program s p → ⊥) × (decode s ≡ Err f)
 
-abbrev pub ReadSays : List ℤ → Result Counts Refusal → Type 0
-ReadSays s (Ok c) = (p : Prog) × Program s p × (c ≡ counts_of p)
+abbrev pub ReadSays : List ℤ → Result Prog Refusal → Type 0
+ReadSays s (Ok p) = Program s p
 ReadSays s (Err f) = Refused s f
 
-pub record ReadPost (s : List ℤ) (r : Result Counts Refusal) : Type 0 where
+pub record ReadPost (s : List ℤ) (r : Result Prog Refusal) : Type 0 where
   pub says : ReadSays s r
   pub parts : Parts
 

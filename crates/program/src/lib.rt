@@ -3,8 +3,10 @@
 
 mod reader;
 mod refusal;
+mod rows;
 mod step;
 
 pub use reader::{Counts, NoOffsets, array_length, offsets, read, step_at};
 pub use refusal::{Field, Reason, Refusal};
+pub use rows::{Program, Steps};
 pub use step::{Array, Operand, Place, Step, Var};

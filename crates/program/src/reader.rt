@@ -4,12 +4,14 @@ ghost use Rattle.std.specs.Prelude.{◌≡◌, ℕ, ◌+◌, ◌<◌, ◌≤◌,
 ghost use Rattle.std.specs.List.{slice_get};
 ghost use Rattle.std.specs.Result.{result_unwrap_or};
 ghost use Rattle.program.specs.declared.refusal.Field.TheVariants.{Length};
-ghost use Rattle.program.specs.Program.{Prog};
-ghost use Rattle.program.specs.Rows.{Program};
+ghost use Rattle.program.specs.Program.{Prog, counts_of};
+ghost use Rattle.program.specs.Rows.{Program as Reads};
+ghost use Rattle.program.specs.declared.reader.NoOffsets.TheVariants.{NoProgram};
 ghost use Rattle.program.specs.Says.{ReadPost, OffsetsPost};
 ghost use Rattle.program.specs.Reading.{number_in, literal_in, index_in, operand_in, two_in, step_in, next_at, steps_at, words_in, counts_in, end_in, first, offsets_of};
 
 use crate::refusal::{Field, Reason, Refusal};
+use crate::rows::Program;
 use crate::step::{Array, Operand, Place, Step, Var};
 
 // How large a program is.
@@ -29,17 +31,22 @@ pub enum NoOffsets {
     Few,
 }
 
+impl From<Refusal> for NoOffsets {
+    ghost from_gives = { λ refusal r. r ≡ NoProgram refusal };
+
+    fn from(refusal: Refusal) -> NoOffsets {
+        NoOffsets::NoProgram(refusal)
+    }
+}
+
 // The k-th number of a row.
 fn number(row: &[i64], k: usize, field: Field) -> Result<i64, Refusal>
     ensures { result ≡ number_in row.now k field }
 {
-    if k >= row.len() {
-        return Err(Refusal {
-            at: row.len(),
-            reason: Reason::Missing(field),
-        });
-    }
-    Ok(row[k])
+    row.get(k).copied().ok_or(Refusal {
+        at: row.len(),
+        reason: Reason::Missing(field),
+    })
 }
 
 fn literal(row: &[i64], k: usize) -> Result<i64, Refusal>
@@ -53,26 +60,23 @@ fn index(row: &[i64], k: usize, field: Field) -> Result<usize, Refusal>
     ensures { result ≡ index_in row.now k field }
 {
     let z = number(row, k, field)?;
-    if z < 0 || !field.allows(z as usize) {
-        return Err(Refusal {
+    match usize::try_from(z) {
+        Ok(n) if field.allows(n) => Ok(n),
+        _ => Err(Refusal {
             at: k,
             reason: Reason::Outside(field, z),
-        });
+        }),
     }
-    Ok(z as usize)
 }
 
 fn operand(row: &[i64], k: usize, vars: usize) -> Result<Operand, Refusal>
     requires { k < 8 }
     ensures { result ≡ operand_in vars row.now k }
 {
-    let kind = index(row, k, Field::OperandKind)?;
-    if kind == 0 {
-        let z = literal(row, k + 1)?;
-        return Ok(Operand::Num(z));
+    match index(row, k, Field::OperandKind)? {
+        0 => Ok(Operand::Num(literal(row, k + 1)?)),
+        _ => Ok(Operand::Var(Var(index(row, k + 1, Field::Variable(vars))?))),
     }
-    let x = index(row, k + 1, Field::Variable(vars))?;
-    Ok(Operand::Var(Var(x)))
 }
 
 // A number that names something, and two operands.
@@ -90,50 +94,42 @@ fn step_in(row: &[i64], counts: Counts) -> Result<Step, Refusal>
     ensures { result ≡ step_in counts row.now }
 {
     let vars = counts.vars;
+    let variable = Field::Variable(vars);
+    let array = Field::Array(counts.arrays);
+    let place = Field::Place(counts.steps);
+    // a kind is a number of the format alone, and becomes a step at once
     match index(row, 0, Field::Kind)? {
-        0 => {
-            let x = index(row, 1, Field::Variable(vars))?;
-            let e = operand(row, 2, vars)?;
-            Ok(Step::Set(Var(x), e))
-        }
+        0 => Ok(Step::Set(
+            Var(index(row, 1, variable)?),
+            operand(row, 2, vars)?,
+        )),
         1 => {
-            let (x, a, b) = two(row, Field::Variable(vars), vars)?;
+            let (x, a, b) = two(row, variable, vars)?;
             Ok(Step::Add(Var(x), a, b))
         }
         2 => {
-            let (x, a, b) = two(row, Field::Variable(vars), vars)?;
+            let (x, a, b) = two(row, variable, vars)?;
             Ok(Step::Sub(Var(x), a, b))
         }
-        3 => {
-            let x = index(row, 1, Field::Variable(vars))?;
-            let c = literal(row, 2)?;
-            let e = operand(row, 3, vars)?;
-            Ok(Step::Mul(Var(x), c, e))
-        }
-        4 => {
-            let x = index(row, 1, Field::Variable(vars))?;
-            let a = index(row, 2, Field::Array(counts.arrays))?;
-            let e = operand(row, 3, vars)?;
-            Ok(Step::Load(Var(x), Array(a), e))
-        }
+        3 => Ok(Step::Mul(
+            Var(index(row, 1, variable)?),
+            literal(row, 2)?,
+            operand(row, 3, vars)?,
+        )),
+        4 => Ok(Step::Load(
+            Var(index(row, 1, variable)?),
+            Array(index(row, 2, array)?),
+            operand(row, 3, vars)?,
+        )),
         5 => {
-            let (a, i, v) = two(row, Field::Array(counts.arrays), vars)?;
+            let (a, i, v) = two(row, array, vars)?;
             Ok(Step::Store(Array(a), i, v))
         }
-        6 => {
-            let x = index(row, 1, Field::Variable(vars))?;
-            Ok(Step::Ask(Var(x)))
-        }
-        7 => {
-            let e = operand(row, 1, vars)?;
-            Ok(Step::Show(e))
-        }
-        8 => {
-            let t = index(row, 1, Field::Place(counts.steps))?;
-            Ok(Step::Go(Place(t)))
-        }
+        6 => Ok(Step::Ask(Var(index(row, 1, variable)?))),
+        7 => Ok(Step::Show(operand(row, 1, vars)?)),
+        8 => Ok(Step::Go(Place(index(row, 1, place)?))),
         9 => {
-            let (t, a, b) = two(row, Field::Place(counts.steps), vars)?;
+            let (t, a, b) = two(row, place, vars)?;
             Ok(Step::Less(a, b, Place(t)))
         }
         _ => Ok(Step::Stop),
@@ -157,7 +153,7 @@ pub fn step_at(rows: &[i64], counts: Counts, at: usize) -> Result<(Step, usize),
 // The length of an array, which the rows have from their third number on.
 pub fn array_length(rows: &[i64], array: Array) -> Result<usize, Refusal>
     ensures exact { result ≡ index_in rows.now (2 + array.0) Length }
-    ensures length { (p : Prog) (n : ℕ) → Program rows.now p → slice_get p.arrays array.0 ≡ Some n → result ≡ Ok n }
+    ensures length { (p : Prog) (n : ℕ) → Reads rows.now p → slice_get p.arrays array.0 ≡ Some n → result ≡ Ok n }
 {
     index(rows, array.0.saturating_add(2), Field::Length)
 }
@@ -169,8 +165,7 @@ fn words(rows: &[i64], arrays: usize) -> Result<usize, Refusal>
 {
     let mut sum = 0;
     for k in 0..arrays {
-        let length = index(rows, 2 + k, Field::Length)?;
-        sum += length;
+        sum += array_length(rows, Array(k))?;
     }
     Ok(sum)
 }
@@ -204,8 +199,8 @@ fn steps_end(rows: &[i64], counts: Counts) -> Result<usize, Refusal>
     Ok(at)
 }
 
-// Whether the rows are a program, and how large it is.
-pub fn read(rows: &[i64]) -> Result<Counts, Refusal>
+// The program that the rows are.
+pub fn read(rows: &[i64]) -> Result<Program<'_>, Refusal>
     ensures { ReadPost rows.now result }
 {
     let counts = header(rows)?;
@@ -216,25 +211,18 @@ pub fn read(rows: &[i64]) -> Result<Counts, Refusal>
             reason: Reason::Extra,
         });
     }
-    Ok(counts)
+    Ok(Program { rows, counts })
 }
 
-fn write_offsets(rows: &[i64], counts: Counts, work: &mut [i64])
-    requires few { counts.arrays ≤ 16 }
-    requires room { counts.steps ≤ length work.old }
-    requires steps { is_ok (steps_at counts rows.now (first counts) counts.steps) ≡ true }
-    ensures written { take counts.steps work.new ≡ offsets_of (first counts) (result_unwrap_or (steps_at counts rows.now (first counts) counts.steps) []) }
-    ensures rest { drop counts.steps work.new ≡ drop counts.steps work.old }
+fn write_offsets(program: &Program, work: &mut [i64])
+    requires { length program.now.code ≤ length work.old }
+    ensures written { take (length program.now.code) work.new ≡ offsets_of (first (counts_of program.now)) program.now.code }
+    ensures rest { drop (length program.now.code) work.new ≡ drop (length program.now.code) work.old }
 {
-    let mut at = 3 + counts.arrays;
-    for k in 0..counts.steps {
-        match step_at(rows, counts, at) {
-            Ok((_, next)) => {
-                work[k] = at as i64;
-                at = next;
-            }
-            Err(_) => unreachable(),
-        }
+    let mut at = 3 + program.counts().arrays;
+    for (Place(k), step) in program.steps() {
+        work[k] = at as i64;
+        at += step.width();
     }
 }
 
@@ -242,14 +230,11 @@ fn write_offsets(rows: &[i64], counts: Counts, work: &mut [i64])
 pub fn offsets(rows: &[i64], work: &mut [i64]) -> Result<Counts, NoOffsets>
     ensures { OffsetsPost rows.now work.old work.new result }
 {
-    match read(rows) {
-        Err(f) => Err(NoOffsets::NoProgram(f)),
-        Ok(counts) => {
-            if work.len() < counts.steps {
-                return Err(NoOffsets::Few);
-            }
-            write_offsets(rows, counts, work);
-            Ok(counts)
-        }
+    let program = read(rows)?;
+    let counts = program.counts();
+    if work.len() < counts.steps {
+        return Err(NoOffsets::Few);
     }
+    write_offsets(&program, work);
+    Ok(counts)
 }
