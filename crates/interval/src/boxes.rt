@@ -2,10 +2,49 @@
 
 ghost use Rattle.std.specs.Prelude.{◌≡◌, slice_index_or, slice_set};
 ghost use Rattle.interval.specs.Ranges.{any, range, held, narrowed};
+ghost use Rattle.std.specs.Iterator.{YieldsFirst, item_count};
 ghost use Rattle.interval.specs.Boxes.{box_of, at_of, left};
 
 use crate::range::Range;
 use program::{Operand, Var};
+use std::marker::Model;
+
+// The ranges of a box, one after another.
+#[derive(Drop)]
+pub struct BoxRanges<'a> {
+    numbers: &'a [i64],
+}
+
+impl<'a> Model for BoxRanges<'a> {
+    ghost use Rattle.interval.specs.Ranges.{Box};
+    ghost use Rattle.interval.specs.Boxes.{box_of};
+
+    ghost Value = { Box };
+
+    ghost view = { λ r. box_of r.numbers.now };
+}
+
+impl<'a> Iterator for BoxRanges<'a> {
+    type Item = Range;
+
+    ghost next_gives = { YieldsFirst (λ rest. rest) };
+
+    ghost remaining = { item_count (λ rest. rest) };
+
+    fn next(&mut self) -> Option<Range> {
+        let [lo, hi, rest @ ..] = self.numbers else {
+            return None;
+        };
+        self.numbers = rest;
+        Some(Range { lo: *lo, hi: *hi })
+    }
+}
+
+pub fn ranges(numbers: &[i64]) -> BoxRanges<'_>
+    ensures { result ≡ box_of numbers.now }
+{
+    BoxRanges { numbers }
+}
 
 pub fn range_at(numbers: &[i64], x: Var) -> Range
     ensures { result ≡ slice_index_or (box_of numbers.now) x.0 any }
