@@ -8,6 +8,9 @@ length-box_of [] = omega arith
 length-box_of (a ∷ []) = omega arith
 length-box_of (a ∷ b ∷ s) = let e = length-box_of s in omega arith
 
+-- for functions that go over the ranges of a box
+pub ruleset pairs = (length-box_of)
+
 pub box_at : (s : List ℤ) (x : ℕ) (d : Range) → x < length s / 2 → get_or (box_of s) x d ≡ record { lo = get_or s (2 * x) (pos 0); hi = get_or s (2 * x + 1) (pos 0) }
 box_at [] x d l = absurd (omega arith)
 box_at (a ∷ []) x d l = absurd (omega arith)

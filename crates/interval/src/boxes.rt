@@ -1,6 +1,6 @@
 // Boxes in lent numbers: from and to for each variable.
 
-ghost use Rattle.std.specs.Prelude.{◌≡◌, slice_index_or, slice_set};
+ghost use Rattle.std.specs.Prelude.{◌≡◌, ◌^◌, ◌<◌, length, slice_index_or, slice_set};
 ghost use Rattle.interval.specs.Ranges.{any, range, held, narrowed};
 ghost use Rattle.std.specs.Iterator.{YieldsFirst, item_count};
 ghost use Rattle.interval.specs.Boxes.{box_of, at_of, left};
@@ -8,20 +8,22 @@ ghost use Rattle.interval.specs.Boxes.{box_of, at_of, left};
 use crate::range::Range;
 use program::{Operand, Var};
 use std::marker::Model;
+use std::slice;
 
 // The ranges of a box, one after another.
 #[derive(Drop)]
 pub struct BoxRanges<'a> {
-    numbers: &'a [i64],
+    numbers: slice::Iter<'a, i64>,
 }
 
 impl<'a> Model for BoxRanges<'a> {
+    ghost use Rattle.std.specs.Slice.Iter.{iter_rest};
     ghost use Rattle.interval.specs.Ranges.{Box};
     ghost use Rattle.interval.specs.Boxes.{box_of};
 
     ghost Value = { Box };
 
-    ghost view = { λ r. box_of r.numbers.now };
+    ghost view = { λ r. box_of (iter_rest r.numbers) };
 }
 
 impl<'a> Iterator for BoxRanges<'a> {
@@ -32,18 +34,20 @@ impl<'a> Iterator for BoxRanges<'a> {
     ghost remaining = { item_count (λ rest. rest) };
 
     fn next(&mut self) -> Option<Range> {
-        let [lo, hi, rest @ ..] = self.numbers else {
-            return None;
-        };
-        self.numbers = rest;
-        Some(Range { lo: *lo, hi: *hi })
+        let lo = *self.numbers.next()?;
+        let hi = *self.numbers.next()?;
+        Some(Range { lo, hi })
     }
 }
 
+#[tactic(auto, using(crate::proofs::Pairs::pairs))]
 pub fn ranges(numbers: &[i64]) -> BoxRanges<'_>
-    ensures { result ≡ box_of numbers.now }
+    ensures rest { result ≡ box_of numbers.now }
+    ensures few { length result < 2 ^ 64 }
 {
-    BoxRanges { numbers }
+    BoxRanges {
+        numbers: numbers.iter(),
+    }
 }
 
 pub fn range_at(numbers: &[i64], x: Var) -> Range
