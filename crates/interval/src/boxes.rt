@@ -81,36 +81,20 @@ pub fn set_range(numbers: &mut [i64], x: Var, r: Range)
     numbers[2 * x.0 + 1] = r.hi;
 }
 
-// Gives the variable the range, if anything is left of it.
-fn hold(numbers: &mut [i64], x: Var, r: Range) -> bool
-    ensures { at_of result numbers.new ≡ held (box_of numbers.old) x.0 r }
-{
-    if !r.some_left() {
-        return false;
-    }
-    set_range(numbers, x, r);
-    true
-}
-
-// The same for a range of which something is left or nothing.
-pub(crate) fn hold_left(numbers: &mut [i64], x: Var, r: Option<Range>) -> bool
+// Gives the variable the range, if there is one.
+pub(crate) fn hold(numbers: &mut [i64], x: Var, r: Option<Range>) -> Option<()>
     ensures { (q : Range) → r ≡ left q → at_of result numbers.new ≡ held (box_of numbers.old) x.0 q }
 {
-    match r {
-        Some(r) => {
-            set_range(numbers, x, r);
-            true
-        }
-        None => false,
-    }
+    set_range(numbers, x, r?);
+    Some(())
 }
 
-// Cuts an operand to a range; a number isn't cut, but must lie in it.
-pub(crate) fn narrow(numbers: &mut [i64], e: Operand, r: Range) -> bool
+// Cuts an operand to a range, if anything is left of it; a number isn't cut, but must lie in it.
+pub(crate) fn narrow(numbers: &mut [i64], e: Operand, r: Range) -> Option<()>
     ensures { at_of result numbers.new ≡ narrowed (box_of numbers.old) e r }
 {
     match e {
-        Operand::Num(z) => Range::only(z).inside(r),
-        Operand::Var(x) => hold(numbers, x, range_at(numbers, x).cut(r)),
+        Operand::Num(z) => Range::only(z).inside(r).then_some(()),
+        Operand::Var(x) => hold(numbers, x, range_at(numbers, x).cut(r).left()),
     }
 }
