@@ -1,8 +1,8 @@
 // Boxes in lent numbers: from and to for each variable.
 
 ghost use Rattle.std.specs.Prelude.{◌≡◌, ◌^◌, ◌<◌, length, slice_index_or, slice_set};
-ghost use Rattle.interval.specs.Ranges.{any, range, held, narrowed};
 ghost use Rattle.std.specs.Iterator.{YieldsFirst, item_count};
+ghost use Rattle.interval.specs.Ranges.{any, range, held, narrowed};
 ghost use Rattle.interval.specs.Boxes.{box_of, at_of, left};
 
 use crate::range::Range;
@@ -50,6 +50,7 @@ pub fn ranges(numbers: &[i64]) -> BoxRanges<'_>
     }
 }
 
+#[tactic(auto, using(crate::proofs::Pairs::places))]
 pub fn range_at(numbers: &[i64], x: Var) -> Range
     ensures { result ≡ slice_index_or (box_of numbers.now) x.0 any }
 {
@@ -71,6 +72,7 @@ pub(crate) fn operand_range(numbers: &[i64], e: Operand) -> Range
     }
 }
 
+#[tactic(auto, using(crate::proofs::Pairs::places))]
 pub fn set_range(numbers: &mut [i64], x: Var, r: Range)
     ensures { box_of numbers.new ≡ slice_set (box_of numbers.old) x.0 r }
 {

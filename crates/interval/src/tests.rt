@@ -21,8 +21,7 @@ pub fn sure(step: Step, words: usize, from: &[i64]) -> bool
             .minus(operand_range(from, b))
             .in_bits(),
         Step::Mul(_, c, e) => operand_range(from, e).scaled(c).in_bits(),
-        Step::Load(_, _, e) => operand_range(from, e).in_array(words),
-        Step::Store(_, e, _) => operand_range(from, e).in_array(words),
+        Step::Load(_, _, e) | Step::Store(_, e, _) => operand_range(from, e).in_array(words),
         _ => true,
     }
 }
