@@ -3,3 +3,4 @@ pub mod Order
 pub mod Monotone
 pub mod Keeps
 pub mod Pairs
+pub mod Ends

@@ -1,5 +1,7 @@
 -- A box and the numbers that it stands in.
 use Rattle.std.proofs.Common.{◌≡◌, ℕ, zero, suc, ◌+◌, ◌*◌, ◌/◌, ◌<◌, List, [], ◌∷◌, length, get_or, set, ℤ, pos, refl, ap, arith}
+use Rattle.std.proofs.lemmas.List.{get_or_past, set_past}
+use Rattle.std.proofs.lemmas.Int.{to_z-of_z}
 use Rattle.interval.specs.declared.range.Range.{Range}
 use Rattle.interval.specs.Boxes.{box_of}
 
@@ -25,3 +27,8 @@ box_set (c ∷ d ∷ s) (suc x) a b l =
     let e : 2 * suc x ≡ suc (suc (2 * x)) = omega arith in
     let f : suc (suc (2 * x)) + 1 ≡ suc (suc (2 * x + 1)) = omega arith in
     rw (e, f) (ap (λ t. record { lo = c; hi = d } ∷ t) (box_set s x a b (omega arith)))
+
+-- for functions that go over the ranges of a box, and for those that look one up
+pub ruleset pairs = (length-box_of)
+
+pub ruleset places = (to_z-of_z, get_or_past, set_past, length-box_of, box_at, box_set)

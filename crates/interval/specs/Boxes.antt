@@ -1,5 +1,6 @@
 -- Boxes as numbers: from and to for each variable.
-use Rattle.std.specs.Prelude.{◌≡◌, Bool, true, false, cond, List, [], ◌∷◌, ℤ, Some, None, Option}
+use Rattle.std.specs.Prelude.{◌≡◌, cond, List, [], ◌∷◌, ℤ, Some, None, Option}
+use denote.Ref.{Bor}
 use Rattle.number.specs.Numbers.{value_of}
 use Rattle.program.specs.declared.Operand.{Operand}
 use Rattle.interval.specs.declared.range.Range.{Range}
@@ -11,10 +12,15 @@ box_of [] = []
 box_of (a ∷ []) = []
 box_of (a ∷ b ∷ s) = record { lo = a; hi = b } ∷ box_of s
 
--- what numbers say that stand for a box only if the answer was yes
-abbrev pub at_of : Bool → List ℤ → At
-at_of true s = within (box_of s)
-at_of false s = never
+-- what is known where numbers stand for a box, if anything comes there
+abbrev pub at_of : {A : Type 0} → Option A → List ℤ → At
+at_of (Some a) s = within (box_of s)
+at_of None s = never
+
+-- the same of numbers that are lent
+abbrev pub at_in : Option (Bor (List ℤ)) → At
+at_in (Some r) = within (box_of r.now)
+at_in None = never
 
 -- a range, if anything is left of it
 abbrev pub left : Range → Option Range

@@ -6,7 +6,7 @@ mod range;
 mod tests;
 mod transfers;
 
-pub use boxes::{range_at, set_range};
+pub use boxes::{BoxRanges, range_at, ranges, set_range};
 pub use range::Range;
 pub use tests::sure;
 pub use transfers::{Way, transfer};

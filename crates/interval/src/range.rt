@@ -1,30 +1,17 @@
 // Ranges.
 
 ghost use Rattle.std.specs.Prelude.{◌≡◌, ◌≤◌};
-ghost use Rattle.number.specs.Numbers.{value_of, least, most};
-ghost use Rattle.interval.specs.Ranges.{any, cut, join, some_left, plus, minus, scaled, inside1};
+ghost use Rattle.interval.specs.Ranges.{any, cut, join, plus, minus, scaled, inside, inside1};
 ghost use Rattle.interval.specs.Boxes.{left, range_of};
 ghost use Rattle.interval.specs.Tests.{in_bits, in_array};
 
 use number::Wide;
 
 // From a number to a number, both counted; turned where `lo` is the larger.
-#[derive(Clone, Copy)]
+#[derive(Clone, Copy, PartialEq, Eq)]
 pub struct Range {
     pub lo: i64,
     pub hi: i64,
-}
-
-fn least(a: i64, b: i64) -> i64
-    ensures { result ≡ least a b }
-{
-    if a <= b { a } else { b }
-}
-
-fn most(a: i64, b: i64) -> i64
-    ensures { result ≡ most a b }
-{
-    if a <= b { b } else { a }
 }
 
 impl Range {
@@ -40,29 +27,31 @@ impl Range {
     }
 
     // What both hold.
+    #[tactic(auto, using(crate::proofs::Ends::ends))]
     pub fn cut(self, other: Range) -> Range
         ensures { result ≡ cut self other }
     {
         Range {
-            lo: most(self.lo, other.lo),
-            hi: least(self.hi, other.hi),
+            lo: self.lo.max(other.lo),
+            hi: self.hi.min(other.hi),
         }
     }
 
-    // Whether it holds any number.
-    pub(crate) fn some_left(self) -> bool
-        ensures { result ≡ some_left self }
+    // The range, if it holds any number.
+    pub(crate) fn left(self) -> Option<Range>
+        ensures { result ≡ left self }
     {
-        self.lo <= self.hi
+        (self.lo <= self.hi).then_some(self)
     }
 
     // The least range that holds both.
+    #[tactic(auto, using(crate::proofs::Ends::ends))]
     pub fn join(self, other: Range) -> Range
         ensures { result ≡ join self other }
     {
         Range {
-            lo: least(self.lo, other.lo),
-            hi: most(self.hi, other.hi),
+            lo: self.lo.min(other.lo),
+            hi: self.hi.max(other.hi),
         }
     }
 
@@ -72,35 +61,28 @@ impl Range {
         other.lo <= self.lo && self.hi <= other.hi
     }
 
+    // The places of an array.
+    pub(crate) fn places(words: usize) -> Range
+        requires { words ≤ 65536 }
+        ensures { result ≡ inside words }
+    {
+        Range {
+            lo: 0,
+            hi: words as i64 - 1,
+        }
+    }
+
     // Whether every number in it is an index of so many.
+    #[tactic(auto, using(crate::proofs::Ends::ends))]
     pub(crate) fn in_array(self, words: usize) -> bool
         requires { words ≤ 65536 }
         ensures { result ≡ in_array words self }
     {
-        self.lo >= 0 && self.hi < words as i64
-    }
-
-    // Sums, differences and products of a number, as far as they have their place in 64 bits.
-    pub(crate) fn plus(self, other: Range) -> Option<Range>
-        ensures { result ≡ left (cut (plus self other) any) }
-    {
-        self.wide_plus(other).cut()
-    }
-
-    pub(crate) fn minus(self, other: Range) -> Option<Range>
-        ensures { result ≡ left (cut (minus self other) any) }
-    {
-        self.wide_minus(other).cut()
-    }
-
-    pub(crate) fn scaled(self, c: i64) -> Option<Range>
-        ensures { result ≡ left (cut (scaled c self) any) }
-    {
-        self.wide_scaled(c).cut()
+        self.inside(Range::places(words))
     }
 
     // Sums, differences and products of a number, before they are cut to 64 bits.
-    pub(crate) fn wide_plus(self, other: Range) -> WideRange
+    pub(crate) fn plus(self, other: Range) -> WideRange
         ensures { range_of result ≡ plus self other }
     {
         WideRange {
@@ -109,7 +91,7 @@ impl Range {
         }
     }
 
-    pub(crate) fn wide_minus(self, other: Range) -> WideRange
+    pub(crate) fn minus(self, other: Range) -> WideRange
         ensures { range_of result ≡ minus self other }
     {
         WideRange {
@@ -118,7 +100,7 @@ impl Range {
         }
     }
 
-    pub(crate) fn wide_scaled(self, c: i64) -> WideRange
+    pub(crate) fn scaled(self, c: i64) -> WideRange
         ensures { range_of result ≡ scaled c self }
     {
         let a = Wide::product(c, self.lo);
@@ -143,7 +125,17 @@ impl WideRange {
     pub(crate) fn cut(self) -> Option<Range>
         ensures { result ≡ left (cut (range_of self) any) }
     {
-        cut64(self.lo, self.hi)
+        let lo = match self.lo.narrow() {
+            Some(z) => z,
+            None if self.lo.negative() => i64::MIN,
+            None => return None,
+        };
+        let hi = match self.hi.narrow() {
+            Some(z) => z,
+            None if self.hi.negative() => return None,
+            None => i64::MAX,
+        };
+        Range { lo, hi }.left()
     }
 
     // Whether neither end leaves 64 bits outward.
@@ -153,32 +145,4 @@ impl WideRange {
         (self.lo.narrow().is_some() || !self.lo.negative())
             && (self.hi.narrow().is_some() || self.hi.negative())
     }
-}
-
-// What is left in 64 bits from one number to another.
-fn cut64(lo: Wide, hi: Wide) -> Option<Range>
-    ensures { result ≡ left (cut (record { lo = value_of lo; hi = value_of hi }) any) }
-{
-    let lo = match lo.narrow() {
-        Some(z) => z,
-        None => {
-            if !lo.negative() {
-                return None;
-            }
-            i64::MIN
-        }
-    };
-    let hi = match hi.narrow() {
-        Some(z) => z,
-        None => {
-            if hi.negative() {
-                return None;
-            }
-            i64::MAX
-        }
-    };
-    if lo > hi {
-        return None;
-    }
-    Some(Range { lo, hi })
 }

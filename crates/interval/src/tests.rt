@@ -15,14 +15,13 @@ pub fn sure(step: Step, words: usize, from: &[i64]) -> bool
 {
     match step {
         Step::Add(_, a, b) => operand_range(from, a)
-            .wide_plus(operand_range(from, b))
+            .plus(operand_range(from, b))
             .in_bits(),
         Step::Sub(_, a, b) => operand_range(from, a)
-            .wide_minus(operand_range(from, b))
+            .minus(operand_range(from, b))
             .in_bits(),
-        Step::Mul(_, c, e) => operand_range(from, e).wide_scaled(c).in_bits(),
-        Step::Load(_, _, e) => operand_range(from, e).in_array(words),
-        Step::Store(_, e, _) => operand_range(from, e).in_array(words),
+        Step::Mul(_, c, e) => operand_range(from, e).scaled(c).in_bits(),
+        Step::Load(_, _, e) | Step::Store(_, e, _) => operand_range(from, e).in_array(words),
         _ => true,
     }
 }
