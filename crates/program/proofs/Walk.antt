@@ -9,7 +9,7 @@ use Rattle.program.specs.declared.reader.Counts.{Counts}
 use Rattle.program.specs.declared.refusal.Refusal.{Refusal}
 use Rattle.program.specs.Program.{Prog, Ahead, counts_of}
 use Rattle.program.specs.Rows.{row_p, IsProgram}
-use Rattle.program.specs.Reading.{next_at, steps_at, steps_from, first, width, widths, GivesStep}
+use Rattle.program.specs.Reading.{next_at, steps_at, steps_from, first, widths, GivesStep}
 use Rattle.program.proofs.Whole.{few_steps, few_arrays}
 use Rattle.program.proofs.Loops.{width_few, steps_left, steps_stop}
 

@@ -1,7 +1,7 @@
 -- Whole programs: their rows are read as that program, and what is read as a program was its rows.
-use Rattle.std.proofs.Common.{◌≡◌, ℕ, zero, suc, ◌+◌, ◌-◌, ◌*◌, ◌<◌, ◌≤◌, min, ◌&&◌, T, eqb, leb, List, [], ◌∷◌, ◌++◌, length, get_or, take, drop, ℤ, pos, Some, Ok, Err, Result, sym, refl, ap, ◌∙◌, subst, add-zero, add_assoc, arith}
+use Rattle.std.proofs.Common.{◌≡◌, ℕ, zero, suc, ◌+◌, ◌-◌, ◌*◌, ◌≤◌, min, ◌&&◌, T, eqb, leb, List, [], ◌∷◌, ◌++◌, length, take, drop, ℤ, pos, Some, Ok, Err, Result, sym, refl, ap, ◌∙◌, subst, add-zero, add_assoc, arith}
 use Rattle.std.specs.List.{slice_get}
-use Rattle.std.proofs.lemmas.List.{take_at, get_or-drop, append_assoc, length-append, append-nil, drop_all, drop-drop, drop_at}
+use Rattle.std.proofs.lemmas.List.{take_at, append_assoc, length-append, append-nil, drop_all, drop-drop, drop_at}
 use Rattle.std.proofs.lemmas.Bool.{leb-true, eqb-true, eq-eqb}
 use Rattle.program.specs.declared.step.Step.{Step}
 use Rattle.program.specs.declared.step.Step.TheVariants.{Set, Add, Sub, Mul, Load, Store, Ask, Show, Go, Less, Stop}
@@ -281,13 +281,3 @@ length_reads s p a n is h = go p.arrays s 2 _ a (fine s p is).0.2 (ap (drop 2) (
 -- the lengths as they stand in the rows
 pub arrays_are : (s : List ℤ) (p : Prog) → Program s p → take (length p.arrays) (drop 2 s) ≡ nats p.arrays
 arrays_are s p is = ap (λ r. take (length p.arrays) (drop 2 r)) (sym is.rows) ∙ take_at (nats p.arrays) _ (length p.arrays) (length-nats p.arrays)
-
-pub array_at : (s : List ℤ) (p : Prog) (a : ℕ) → Program s p → a < length p.arrays → (get_or s (2 + a) (pos 0) ≡ pos (get_or p.arrays a 0)) × (get_or p.arrays a 0 ≤ 65536)
-array_at s p a is l =
-    let u = go p.arrays _ a (fine s p is).0.2 l in
-    (sym (get_or-drop 2 s a (pos 0)) ∙ ap (λ r. get_or (drop 2 r) a (pos 0)) (sym is.rows) ∙ u.0, u.1)
-  where
-    go : (ns : List ℕ) (t : List ℤ) (a : ℕ) → T (small ns) → a < length ns → (get_or (nats ns ++ t) a (pos 0) ≡ pos (get_or ns a 0)) × (get_or ns a 0 ≤ 65536)
-    go [] t a ok l = absurd (omega arith)
-    go (n ∷ ns) t zero ok l = (refl, leb-true n 65536 (T_true _ (both (leb n 65536) (small ns) ok).0))
-    go (n ∷ ns) t (suc a) ok l = go ns t a (both (leb n 65536) (small ns) ok).1 (omega arith)

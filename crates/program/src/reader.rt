@@ -99,10 +99,7 @@ fn step_in(row: &[i64], counts: Counts) -> Result<Step, Refusal>
     let place = Field::Place(counts.steps);
     // a kind is a number of the format alone, and becomes a step at once
     match index(row, 0, Field::Kind)? {
-        0 => Ok(Step::Set(
-            Var(index(row, 1, variable)?),
-            operand(row, 2, vars)?,
-        )),
+        0 => Ok(Step::Set(Var(index(row, 1, variable)?), operand(row, 2, vars)?)),
         1 => {
             let (x, a, b) = two(row, variable, vars)?;
             Ok(Step::Add(Var(x), a, b))

@@ -1,13 +1,13 @@
 // Rows that are a program, and its steps one after another.
 
-ghost use Rattle.std.specs.Prelude.{◌≡◌, ◌≤◌, length, slice_index};
+ghost use Rattle.std.specs.Prelude.{◌≡◌, length};
 ghost use Rattle.std.specs.Iterator.{at_most};
 ghost use Rattle.program.specs.Program.{counts_of};
 ghost use Rattle.program.specs.Rows.{Program as Reads, IsProgram, nats};
 ghost use Rattle.program.specs.Reading.{GivesStep};
 
 use crate::reader::{Counts, step_at};
-use crate::step::{Array, Place, Step};
+use crate::step::{Place, Step};
 use std::marker::Model;
 
 // Contracts see the program.
@@ -49,17 +49,6 @@ impl<'a> Program<'a> {
         ensures { result.now ≡ nats self.now.arrays }
     {
         &self.rows[2..2 + self.counts.arrays]
-    }
-
-    // The length of an array; 0 where the program doesn't have it.
-    pub fn array_length(&self, array: Array) -> usize
-        ensures few { result ≤ 65536 }
-        ensures length { result ≡ slice_index self.now.arrays array.0 }
-    {
-        if array.0 >= self.counts.arrays {
-            return 0;
-        }
-        self.rows[2 + array.0] as usize
     }
 
     // The steps with their places, in order.

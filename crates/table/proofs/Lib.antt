@@ -4,6 +4,7 @@ pub mod Steps
 pub mod Rows
 pub mod Looks
 pub mod Nothing
+pub mod Hopping
 pub mod Cases
 pub mod Truth
 pub mod Licensing

@@ -1,36 +1,37 @@
 -- What the loops over a table's rows go by.
-use Rattle.std.proofs.Common.{◌≡◌, ℕ, zero, suc, ◌+◌, ◌-◌, ◌*◌, ◌<◌, ◌≤◌, true, false, cond, List, [], ◌∷◌, length, get_or, take, drop, replicate, ℤ, pos, is_some, Some, None, Option, sym, refl, ap, ◌∙◌, ap₂, add_assoc, mul-le-mul_right, add-mul, one-mul, add-one-le, arith}
+use Rattle.std.proofs.Common.{◌≡◌, ℕ, zero, suc, ◌+◌, ◌-◌, ◌*◌, ◌<◌, ◌≤◌, true, false, cond, not, Bool, List, [], ◌∷◌, length, get_or, take, drop, replicate, ℤ, pos, is_some, is_ok, Some, None, Option, Ok, Err, Result, sym, refl, ap, ◌∙◌, ap₂, add_assoc, add-zero, mul-le-mul_right, add-mul, one-mul, add-one-le, arith}
 use Rattle.std.specs.Option.{option_map}
+use Rattle.std.specs.List.{position, position_from}
+use Rattle.std.proofs.lemmas.Iterator.Adapters.{position_from-zero}
 use Rattle.std.proofs.lemmas.Bool.{false≢true, true≢false}
 use Rattle.program.specs.declared.Step.{Step}
 use Rattle.interval.specs.declared.Way.TheVariants.{Jump, Next}
-use Rattle.std.proofs.lemmas.List.{drop_more, drop_all, take_rest}
-use Rattle.interval.specs.declared.Range.{Range}
-use Rattle.interval.specs.Ranges.{Box, never, within, any, only, makes, inside1}
+use Rattle.std.proofs.lemmas.List.{take_rest}
+use Rattle.interval.specs.Ranges.{Box, At, never, within, only}
 use Rattle.interval.specs.Boxes.{box_of}
-use Rattle.table.specs.declared.fault.Miss.{Miss}
-use Rattle.table.specs.declared.fault.Miss.TheVariants.{Outside}
 use Rattle.table.specs.declared.fault.Fault.{Fault}
-use Rattle.table.specs.declared.fault.Fault.TheVariants.{Flag, Blank, NotCarried}
-use Rattle.table.specs.Tables.{zeros, target}
+use Rattle.table.specs.declared.fault.Fault.TheVariants.{Flag, Blank}
+use Rattle.table.specs.Tables.{zeros, target, words_of}
 use Rattle.table.specs.Rows.{width, is_number, place_of, place_in}
-use Rattle.table.specs.Looking.{or_else, outside, missed, not_zero, row_fault, rows_fault, known, way_miss, step_fault}
+use Rattle.table.specs.declared.hops.Hop.{Hop}
+use Rattle.table.specs.Hops.{hop, hops_from}
+use Rattle.program.specs.Program.{Prog}
+use Rattle.table.specs.Looking.{or_else, not_zero, row_fault, rows_fault, known, way_miss, hop_fault, steps_fault, unless}
 
--- one more variable
-pub outside_more : (k : ℕ) (b c : Box) (r q : Range) → k < length b → k < length c → r ≡ get_or b k any → q ≡ get_or c k any → outside k (drop k b) (drop k c) ≡ cond (inside1 r q) (outside (k + 1) (drop (k + 1) b) (drop (k + 1) c)) (Some (Outside (record { 0 = k }) r q))
-outside_more k b c r q l m e f =
-    ap₂ (outside k) (drop_more b k any l) (drop_more c k any m)
-    ∙ ap₂ (λ r q. cond (inside1 r q) (outside (k + 1) (drop (k + 1) b) (drop (k + 1) c)) (Some (Outside (record { 0 = k }) r q))) (sym e) (sym f)
+-- the first number that isn't 0, as the code finds it
+abbrev nonzero : ℤ → Bool
+nonzero z = not (is_number 0 z)
 
-pub outside-all : (k : ℕ) (b c : Box) → length b ≤ k → outside k (drop k b) (drop k c) ≡ None
-outside-all k b c l = ap (λ r. outside k r (drop k c)) (drop_all k b l)
+not_zero_from : (k i : ℕ) (s : List ℤ) → not_zero (k + i) s ≡ option_map (λ i. k + i) (position_from nonzero i s)
+not_zero_from k i [] = refl
+not_zero_from k i (z ∷ s) = go (is_number 0 z) (ap (λ n. not_zero n s) (add_assoc k i 1) ∙ not_zero_from k (i + 1) s)
+  where
+    go : (t : Bool) → not_zero (k + i + 1) s ≡ option_map (λ i. k + i) (position_from nonzero (i + 1) s) → cond t (not_zero (k + i + 1) s) (Some (k + i)) ≡ option_map (λ i. k + i) (cond (not t) (Some i) (position_from nonzero (i + 1) s))
+    go true h = h
+    go false h = refl
 
--- one more number
-pub not_zero_more : (k i : ℕ) (s : List ℤ) → i < length s → not_zero (k + i) (drop i s) ≡ cond (is_number 0 (get_or s i (pos 0))) (not_zero (k + (i + 1)) (drop (i + 1) s)) (Some (k + i))
-not_zero_more k i s l = ap (not_zero (k + i)) (drop_more s i (pos 0) l) ∙ ap (λ m. cond (is_number 0 (get_or s i (pos 0))) (not_zero m (drop (i + 1) s)) (Some (k + i))) (add_assoc k i 1)
-
-pub not_zero-all : (k i : ℕ) (s : List ℤ) → length s ≤ i → not_zero (k + i) (drop i s) ≡ None
-not_zero-all k i s l = ap (not_zero (k + i)) (drop_all i s l)
+pub first_not_zero : (k : ℕ) (s : List ℤ) → not_zero k s ≡ option_map (λ i. k + i) (position nonzero s)
+first_not_zero k s = ap (λ n. not_zero n s) (sym (add-zero k)) ∙ not_zero_from k 0 s ∙ ap (option_map (λ i. k + i)) (sym (position_from-zero nonzero s))
 
 -- the row of a place, by its first number
 pub place_known : (row : List ℤ) → 0 < length row → is_number 1 (get_or row 0 (pos 0)) ≡ true → place_of row ≡ within (box_of (drop 1 row))
@@ -41,9 +42,17 @@ pub place_never : (row : List ℤ) → 0 < length row → is_number 1 (get_or ro
 place_never [] l e = absurd (omega arith)
 place_never (z ∷ s) l e = ap (λ t. cond t (within (box_of s)) never) e
 
-pub row_blank : (k : ℕ) (row : List ℤ) (r : Option ℕ) → 0 < length row → is_number 1 (get_or row 0 (pos 0)) ≡ false → is_number 0 (get_or row 0 (pos 0)) ≡ true → r ≡ not_zero (k + 1) (take (length row - 1) (drop 1 row)) → option_map Blank r ≡ row_fault k row
+pub row_blank : (k : ℕ) (row : List ℤ) (r : Option ℕ) → 0 < length row → is_number 1 (get_or row 0 (pos 0)) ≡ false → is_number 0 (get_or row 0 (pos 0)) ≡ true → r ≡ position nonzero (take (length row - 1) (drop 1 row)) → option_map (λ i. Blank (k + 1 + i)) r ≡ row_fault k row
 row_blank k [] r l e f h = absurd (omega arith)
-row_blank k (z ∷ s) r l e f h = ap (option_map Blank) (h ∙ ap (not_zero (k + 1)) (take_rest (z ∷ s) 1)) ∙ sym (ap₂ (λ t u. cond t None (cond u (option_map Blank (not_zero (k + 1) s)) (Some (Flag k)))) e f)
+row_blank k (z ∷ s) r l e f h =
+    map_map r
+    ∙ ap (λ o. option_map Blank (option_map (λ i. k + 1 + i) o)) (h ∙ ap (position nonzero) (take_rest (z ∷ s) 1))
+    ∙ ap (option_map Blank) (sym (first_not_zero (k + 1) s))
+    ∙ sym (ap₂ (λ t u. cond t None (cond u (option_map Blank (not_zero (k + 1) s)) (Some (Flag k)))) e f)
+  where
+    map_map : (o : Option ℕ) → option_map (λ i. Blank (k + 1 + i)) o ≡ option_map Blank (option_map (λ i. k + 1 + i) o)
+    map_map (Some i) = refl
+    map_map None = refl
 
 -- a row lies within the table
 pub row_there : (n m w k : ℕ) → n < m → m * w ≤ k → n * w + w ≤ k
@@ -70,15 +79,43 @@ pub or_none : {A : Type 0} (o x : Option A) → is_some o ≡ false → or_else 
 or_none (Some y) x e = absurd (true≢false e)
 or_none None x e = refl
 
--- the step at a place, from what the code finds of its two ways
-abbrev not_carried : ℕ → ℕ → Option Miss → Option Fault
-not_carried n to o = option_map (λ m. NotCarried (record { 0 = n }) (record { 0 = to }) m) o
+-- a hop, from what the code finds of it
+module _ (words vars : ℕ) (s : List ℤ) (h : Hop) (row : List ℤ) (is : row ≡ take (width vars) (drop (h.from.0 * width vars) s)) (some : 0 < length row) where
+  pub hop_unknown : is_number 1 (get_or row 0 (pos 0)) ≡ false → hop_fault words vars s h ≡ None
+  hop_unknown e = ap (λ a. known a (λ b. way_miss words vars s h.from.0 h.to.0 h.way h.step b)) (ap place_of (sym is) ∙ place_never row some e)
 
-module _ (words vars n : ℕ) (s : List ℤ) (i : Step) (row : List ℤ) (is : row ≡ take (width vars) (drop (n * width vars) s)) (some : 0 < length row) where
-  pub unknown : is_number 1 (get_or row 0 (pos 0)) ≡ false → step_fault words vars s n i ≡ None
-  unknown e = ap (λ a. known a (λ b. or_else (way_miss words vars s n (target i) Jump i b) (way_miss words vars s n (n + 1) Next i b))) (ap place_of (sym is) ∙ place_never row some e)
+  pub hop_known : is_number 1 (get_or row 0 (pos 0)) ≡ true → hop_fault words vars s h ≡ way_miss words vars s h.from.0 h.to.0 h.way h.step (box_of (take (length row - 1) (drop 1 row)))
+  hop_known e = ap (λ a. known a (λ b. way_miss words vars s h.from.0 h.to.0 h.way h.step b)) (ap place_of (sym is) ∙ place_known row some e ∙ ap (λ t. within (box_of t)) (sym (take_rest row 1)))
 
-  pub both_ways : (r₁ r₂ : Option Miss) → is_number 1 (get_or row 0 (pos 0)) ≡ true → r₁ ≡ missed (makes words Jump i (box_of (take (length row - 1) (drop 1 row)))) (place_in vars s (target i)) → r₂ ≡ missed (makes words Next i (box_of (take (length row - 1) (drop 1 row)))) (place_in vars s (n + 1)) → step_fault words vars s n i ≡ or_else (not_carried n (target i) r₁) (not_carried n (n + 1) r₂)
-  both_ways r₁ r₂ e f g =
-      ap (λ a. known a (λ b. or_else (way_miss words vars s n (target i) Jump i b) (way_miss words vars s n (n + 1) Next i b))) (ap place_of (sym is) ∙ place_known row some e ∙ ap (λ t. within (box_of t)) (sym (take_rest row 1)))
-      ∙ sym (ap₂ (λ o p. or_else (not_carried n (target i) o) (not_carried n (n + 1) p)) f g)
+-- the first fault of the hops that are left
+abbrev pub hops_fault : Prog → List ℤ → List Hop → Option Fault
+hops_fault p s [] = None
+hops_fault p s (h ∷ hs) = or_else (hop_fault (words_of p h.step) p.vars s h) (hops_fault p s hs)
+
+pub hops_steps : (p : Prog) (s : List ℤ) (n : ℕ) (is : List Step) → hops_fault p s (hops_from n is) ≡ steps_fault p s n is
+hops_steps p s n [] = refl
+hops_steps p s n (i ∷ is) =
+    ap (λ o. or_else (hop_fault (words_of p i) p.vars s (hop n i Jump)) (or_else (hop_fault (words_of p i) p.vars s (hop n i Next)) o)) (hops_steps p s (n + 1) is)
+    ∙ both (place_in p.vars s n) (way_miss (words_of p i) p.vars s n (target i) Jump i) (way_miss (words_of p i) p.vars s n (n + 1) Next i) (steps_fault p s (n + 1) is)
+  where
+    in_turn : {A : Type 0} (x y z : Option A) → or_else x (or_else y z) ≡ or_else (or_else x y) z
+    in_turn (Some a) y z = refl
+    in_turn None y z = refl
+
+    both : {A : Type 0} (a : At) (f g : Box → Option A) (z : Option A) → or_else (known a f) (or_else (known a g) z) ≡ or_else (known a (λ b. or_else (f b) (g b))) z
+    both never f g z = refl
+    both (within b) f g z = in_turn (f b) (g b) z
+
+-- what a check answers, from what it finds
+module _ {E F : Type 0} (f : E → F) (r : Result (Unit {0}) E) (q : Result (Unit {0}) F) (fine : r ≡ Ok tt → q ≡ Ok tt) (bad : (e : E) → r ≡ Err e → q ≡ Err (f e)) where
+  pub mapped : (o : Option E) → r ≡ unless o → q ≡ unless (option_map f o)
+  mapped None e = fine e
+  mapped (Some x) e = bad x e
+
+pub unless_none : {E : Type 0} (o : Option E) (x : Unit {0}) → Ok x ≡ unless o → o ≡ None
+unless_none None x e = refl
+unless_none (Some y) x e = absurd (true≢false (ap is_ok e))
+
+pub unless_some : {E : Type 0} (o : Option E) (y : E) → Err y ≡ unless o → o ≡ Some y
+unless_some None y e = absurd (true≢false (sym (ap is_ok e)))
+unless_some (Some z) y e = ap Some (let same : z ≡ y = cc in same)

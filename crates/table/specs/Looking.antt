@@ -1,5 +1,5 @@
 -- How a table is looked at, each step once, and the first fault that is found.
-use Rattle.std.specs.Prelude.{ℕ, zero, suc, ◌+◌, cond, List, [], ◌∷◌, length, take, drop, ℤ, Some, None, Option, ◌==◌}
+use Rattle.std.specs.Prelude.{ℕ, zero, suc, ◌+◌, cond, List, [], ◌∷◌, length, take, drop, ℤ, Some, None, Option, Ok, Err, Result, ◌==◌}
 use Rattle.std.specs.Option.{option_map}
 use Rattle.program.specs.declared.Step.{Step}
 use Rattle.program.specs.Program.{Prog, counts_of}
@@ -10,8 +10,14 @@ use Rattle.table.specs.declared.fault.Miss.{Miss}
 use Rattle.table.specs.declared.fault.Miss.TheVariants.{Never, Outside}
 use Rattle.table.specs.declared.fault.Fault.{Fault}
 use Rattle.table.specs.declared.fault.Fault.TheVariants.{Size, Flag, Blank, Start, NotCarried}
+use Rattle.table.specs.declared.hops.Hop.{Hop}
 use Rattle.table.specs.Tables.{zeros, words_of, target}
 use Rattle.table.specs.Rows.{width, wants, is_number, place_in}
+
+-- a fault, or none, as what a check answers
+abbrev pub unless : {E : Type 0} → Option E → Result (Unit {0}) E
+unless None = Ok tt
+unless (Some e) = Err e
 
 abbrev pub or_else : {A : Type 0} → Option A → Option A → Option A
 or_else (Some x) o = Some x
@@ -50,6 +56,10 @@ way_miss words vars s n to w i b = option_map (λ m. NotCarried (record { 0 = n 
 abbrev pub known : {A : Type 0} → At → (Box → Option A) → Option A
 known never k = None
 known (within b) k = k b
+
+-- the fault that a hop shows
+abbrev pub hop_fault : ℕ → ℕ → List ℤ → Hop → Option Fault
+hop_fault words vars s h = known (place_in vars s h.from.0) (λ b. way_miss words vars s h.from.0 h.to.0 h.way h.step b)
 
 abbrev pub step_fault : ℕ → ℕ → List ℤ → ℕ → Step → Option Fault
 step_fault words vars s n i =

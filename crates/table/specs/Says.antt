@@ -2,17 +2,16 @@
 use Rattle.std.specs.Prelude.{◌≡◌, ℕ, ◌+◌, ◌<◌, ◌↔◌, List, length, replicate, ℤ, Some, None, Ok, Err, Result}
 use Rattle.std.specs.List.{slice_get}
 use Rattle.program.specs.declared.Step.{Step}
-use Rattle.program.specs.declared.Counts.{Counts}
 use Rattle.program.specs.declared.Place.{Place}
-use Rattle.program.specs.Program.{Prog, counts_of}
+use Rattle.program.specs.Program.{Prog}
 use Rattle.program.specs.Rows.{Program}
 use Rattle.program.specs.Says.{Refused, OneProgram}
 use Rattle.interval.specs.Ranges.{Box, within}
 use Rattle.interval.specs.Laws.{anys, Monotone, StaysProper, StaysInBits}
 use Rattle.table.specs.declared.fault.Miss.{Miss}
 use Rattle.table.specs.declared.fault.Fault.TheVariants.{NotCarried}
-use Rattle.table.specs.declared.look.NotGood.{NotGood}
-use Rattle.table.specs.declared.look.NotGood.TheVariants.{Unread, BadTable}
+use Rattle.table.specs.declared.fault.NotGood.{NotGood}
+use Rattle.table.specs.declared.fault.NotGood.TheVariants.{Unread, BadTable}
 use Rattle.table.specs.Tables.{Table, at, leads, Carried, Holds}
 use Rattle.table.specs.Rows.{row_t}
 use Rattle.table.specs.Looking.{fault_in}
@@ -54,11 +53,11 @@ pub record Parts : Type 0 where
   pub stays_proper : StaysProper
   pub stays_in_bits : StaysInBits
 
-abbrev pub CheckSays : List ℤ → List ℤ → Result Counts NotGood → Type 0
-CheckSays s l (Ok c) = (p : Prog) × (t : Table) × Program s p × (c ≡ counts_of p) × (row_t p.vars t ≡ l) × Holds p t
+abbrev pub CheckSays : List ℤ → List ℤ → Result Prog NotGood → Type 0
+CheckSays s l (Ok p) = (t : Table) × Program s p × (row_t p.vars t ≡ l) × Holds p t
 CheckSays s l (Err (Unread f)) = Refused s f
 CheckSays s l (Err (BadTable f)) = (p : Prog) × Program s p × (fault_in p l ≡ Some f) × ((t : Table) → row_t p.vars t ≡ l → Holds p t → ⊥)
 
-pub record CheckPost (s l : List ℤ) (r : Result Counts NotGood) : Type 0 where
+pub record CheckPost (s l : List ℤ) (r : Result Prog NotGood) : Type 0 where
   pub says : CheckSays s l r
   pub parts : Parts

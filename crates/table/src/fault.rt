@@ -1,7 +1,10 @@
 // Why a table doesn't hold.
 
+ghost use Rattle.std.specs.Prelude.{◌≡◌};
+ghost use Rattle.table.specs.declared.fault.NotGood.TheVariants.{Unread, BadTable};
+
 use interval::Range;
-use program::{Place, Var};
+use program::{Place, Refusal, Var};
 
 // What a table doesn't know, though it has to.
 #[derive(Clone, Copy)]
@@ -24,4 +27,27 @@ pub enum Fault {
     Start(Miss),
     // the step at the first place isn't carried to the second
     NotCarried(Place, Place, Miss),
+}
+
+// Why a table is not good for a program: the rows are none, or the table doesn't hold.
+#[derive(Clone, Copy)]
+pub enum NotGood {
+    Unread(Refusal),
+    BadTable(Fault),
+}
+
+impl From<Refusal> for NotGood {
+    ghost from_gives = { λ refusal r. r ≡ Unread refusal };
+
+    fn from(refusal: Refusal) -> NotGood {
+        NotGood::Unread(refusal)
+    }
+}
+
+impl From<Fault> for NotGood {
+    ghost from_gives = { λ fault r. r ≡ BadTable fault };
+
+    fn from(fault: Fault) -> NotGood {
+        NotGood::BadTable(fault)
+    }
 }

@@ -2,11 +2,13 @@
 #![tactic(auto)]
 
 mod fault;
+mod hops;
 mod licence;
 mod look;
 mod place;
 
-pub use fault::{Fault, Miss};
+pub use fault::{Fault, Miss, NotGood};
+pub use hops::{Hop, Hops, place_named};
 pub use licence::licensed;
-pub use look::{NotGood, check, place_named, words_of};
+pub use look::{check, words_of};
 pub use place::{is_known, row_of};

@@ -1,10 +1,11 @@
 // The places of a table, as parts of its rows.
 
-ghost use Rattle.std.specs.Prelude.{◌≡◌, ◌+◌, ◌*◌, ◌^◌, ◌<◌, ◌≤◌, length, take, drop, pos, slice_index_or};
+ghost use Rattle.std.specs.Prelude.{◌≡◌, ◌+◌, ◌*◌, ◌^◌, ◌<◌, ◌≤◌, length, IfSome, not, take, drop, pos, slice_index_or};
+ghost use Rattle.std.specs.List.{position};
 ghost use Rattle.interval.specs.Ranges.{within};
 ghost use Rattle.interval.specs.Boxes.{box_of};
 ghost use Rattle.table.specs.Rows.{width, is_number, place_of};
-ghost use Rattle.table.specs.Looking.{outside, missed, not_zero, row_fault};
+ghost use Rattle.table.specs.Looking.{outside, missed, row_fault, unless};
 
 use crate::fault::{Fault, Miss};
 use program::Var;
@@ -21,13 +22,6 @@ pub fn row_of(table: &[i64], vars: usize, n: usize) -> &[i64]
     &table[start..start + width]
 }
 
-fn is_zero(numbers: &[i64], k: usize) -> bool
-    requires { k < length numbers.now }
-    ensures { result ≡ is_number 0 (slice_index_or numbers.now k (pos 0)) }
-{
-    numbers[k] == 0
-}
-
 // Whether something comes to the place of a row.
 pub fn is_known(row: &[i64]) -> bool
     requires { 0 < length row.now }
@@ -36,60 +30,59 @@ pub fn is_known(row: &[i64]) -> bool
     row[0] == 1
 }
 
-// The first variable whose range in the first box isn't inside the one in the second.
-fn first_outside(a: &[i64], b: &[i64]) -> Option<Miss>
+// Whether each range of the first box lies inside the one of the second.
+#[tactic(auto, using(interval::proofs::Pairs::pairs))]
+fn covered_box(a: &[i64], b: &[i64]) -> Result<(), Miss>
     requires { length b.now ≡ length a.now }
-    ensures { result ≡ outside 0 (box_of a.now) (box_of b.now) }
+    ensures { result ≡ unless (outside 0 (box_of a.now) (box_of b.now)) }
 {
-    for k in 0..a.len() / 2 {
-        let x = Var(k);
-        let r = interval::range_at(a, x);
-        let q = interval::range_at(b, x);
+    for (k, (r, q)) in interval::ranges(a).zip(interval::ranges(b)).enumerate() {
         if !r.inside(q) {
-            return Some(Miss::Outside(x, r, q));
+            return Err(Miss::Outside(Var(k), r, q));
         }
     }
-    None
+    Ok(())
 }
 
-// What a place of the table misses of a box.
-pub(crate) fn missed_by(made: &[i64], row: &[i64]) -> Option<Miss>
+// Whether a place of the table has a box.
+pub(crate) fn covered(made: &[i64], row: &[i64]) -> Result<(), Miss>
     requires { length row.now ≡ length made.now + 1 }
-    ensures { result ≡ missed (within (box_of made.now)) (place_of row.now) }
+    ensures { result ≡ unless (missed (within (box_of made.now)) (place_of row.now)) }
 {
     if !is_known(row) {
-        return Some(Miss::Never);
+        return Err(Miss::Never);
     }
-    first_outside(made, &row[1..])
+    covered_box(made, &row[1..])
 }
 
-// The first number, counted from k, that should be 0.
-fn not_zero(numbers: &[i64], k: usize) -> Option<usize>
-    requires { k ≤ 2 ^ 32 }
-    ensures { result ≡ not_zero k numbers.now }
+fn is_zero(number: i64) -> bool
+    ensures { result ≡ is_number 0 number }
 {
-    for i in 0..numbers.len() {
-        if !is_zero(numbers, i) {
-            return Some(k + i);
-        }
-    }
-    None
+    number == 0
 }
 
-// What is wrong with the row of a place, which begins at k.
-pub(crate) fn row_fault(row: &[i64], k: usize) -> Option<Fault>
+// The first number that isn't 0.
+fn not_zero(numbers: &[i64]) -> Option<usize>
+    ensures first { result ≡ position (λ z. not (is_number 0 z)) numbers.now }
+    ensures there { IfSome result (λ i. i < length numbers.now) }
+{
+    numbers.iter().position(|z| !is_zero(*z))
+}
+
+// Whether the row of a place, which begins at k, is one of a table.
+pub(crate) fn check_row(row: &[i64], k: usize) -> Result<(), Fault>
     requires some { 0 < length row.now }
     requires fits { k < 2 ^ 32 }
-    ensures { result ≡ row_fault k row.now }
+    ensures { result ≡ unless (row_fault k row.now) }
 {
     if is_known(row) {
-        return None;
+        return Ok(());
     }
-    if !is_zero(row, 0) {
-        return Some(Fault::Flag(k));
+    if !is_zero(row[0]) {
+        return Err(Fault::Flag(k));
     }
-    match not_zero(&row[1..], k + 1) {
-        Some(i) => Some(Fault::Blank(i)),
-        None => None,
+    match not_zero(&row[1..]) {
+        Some(i) => Err(Fault::Blank(k + 1 + i)),
+        None => Ok(()),
     }
 }

@@ -1,4 +1,4 @@
-use Rattle.std.proofs.Common.{◌≡◌, ◌+◌, ◌≤◌, ◌<◌, [], ◌∷◌, ◌++◌, length, take, drop, set, pos, sym, ap, ◌∙◌, refl, add_assoc, arith, rules, w64, to_z}
+use Rattle.std.proofs.Common.{◌≡◌, ◌+◌, ◌≤◌, ◌<◌, [], ◌∷◌, ◌++◌, length, take, set, pos, sym, ap, ◌∙◌, refl, add_assoc, arith, rules, w64, to_z}
 use Rattle.std.proofs.lemmas.List.{append_assoc, append-nil, take_more_set, drop-set-lt}
 use Rattle.std.proofs.lemmas.Int.{to_z_pos}
 use Rattle.program.specs.Reading.{width, widths, offsets_of}
@@ -37,12 +37,12 @@ loop-k-preserved c =
       t.ahead,
       ap (λ n. at + n + widths c.next.new.self.steps) c.width-at.ensures ∙ add_assoc at (width i) (widths c.next.new.self.steps) ∙ ap (λ is. at + widths is) (sym gives.0) ∙ inv.1,
       ap (λ n. take n (set w k (to_z w64 at)) ++ offsets_of (at + c.width-at.result) c.next.new.self.steps) place
-      ∙ ap (λ n. take (k + 1) (set w k (to_z w64 at)) ++ offsets_of (at + n) c.next.new.self.steps) c.width-at.ensures
-      ∙ ap (λ r. r ++ left) (take_more_set w k (to_z w64 at) room ∙ ap (λ z. take k w ++ z ∷ []) at-is)
-      ∙ append_assoc (take k w) (pos at ∷ []) left
-      ∙ ap (λ k. take k w ++ (pos at ∷ left)) gives.1
-      ∙ ap (λ is. take c.loop-k.k-iterator.place w ++ offsets_of at is) (sym gives.0)
-      ∙ inv.2,
+          ∙ ap (λ n. take (k + 1) (set w k (to_z w64 at)) ++ offsets_of (at + n) c.next.new.self.steps) c.width-at.ensures
+          ∙ ap (λ r. r ++ left) (take_more_set w k (to_z w64 at) room ∙ ap (λ z. take k w ++ z ∷ []) at-is)
+          ∙ append_assoc (take k w) (pos at ∷ []) left
+          ∙ ap (λ k. take k w ++ (pos at ∷ left)) gives.1
+          ∙ ap (λ is. take c.loop-k.k-iterator.place w ++ offsets_of at is) (sym gives.0)
+          ∙ inv.2,
       drop-set-lt (length p.code) w k (to_z w64 at) t.there ∙ inv.3,
     )
 

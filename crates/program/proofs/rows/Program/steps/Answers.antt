@@ -1,7 +1,6 @@
-use Rattle.std.proofs.Common.{◌≡◌, ◌-◌, [], Ok, is_ok, ap, ◌∙◌, arith}
+use Rattle.std.proofs.Common.{[], is_ok, ap, ◌∙◌}
 use Rattle.std.specs.Result.{result_unwrap_or}
-use Rattle.program.specs.declared.reader.Counts.{Counts}
-use Rattle.program.specs.Reading.{steps_at, first, program_in}
+use Rattle.program.specs.Reading.{program_in}
 use Rattle.program.proofs.Whole.{all_steps}
 use Rattle.program.proofs.rows.Program.steps.Goals as goal
 
