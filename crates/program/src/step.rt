@@ -54,7 +54,7 @@ impl Step {
     }
 
     // How many numbers the step's row has.
-    pub(crate) fn width(self) -> usize
+    pub fn width(self) -> usize
         ensures { result ≡ width self }
     {
         match self {
