@@ -1,6 +1,9 @@
 // What the command line programs refuse, each in one line.
 #![tactic(auto)]
 
+ghost use Rattle.std.specs.Prelude.{◌≡◌};
+ghost use Rattle.message.specs.declared.Error.TheVariants.{Memory};
+
 use interval::Range;
 use program::{Place, Refusal, Step, Var};
 use std::alloc::AllocError;
@@ -44,11 +47,17 @@ pub struct Complaint {
     pub fault: Fault,
     // how many numbers the table has
     pub count: usize,
-    // the number that the fault names, and where it stands
-    pub number: i64,
-    pub at: Option<Position>,
+    // the number that the fault names
+    pub number: Option<Written>,
     // the step that isn't carried
     pub step: Option<Step>,
+}
+
+// A number of a table, and where it stands, if that is in a text.
+#[derive(Clone, Copy)]
+pub struct Written {
+    pub number: i64,
+    pub at: Option<Position>,
 }
 
 // The range of a variable, in words.
@@ -109,46 +118,58 @@ impl fmt::Display for At {
     }
 }
 
+// A number that the table can't have at its index, and why.
+#[derive(Clone, Copy)]
+struct Wrong(usize, Option<Written>, &'static str);
+
+impl fmt::Display for Wrong {
+    fn fmt<W: fmt::Write>(&self, f: &mut fmt::Formatter<W>) -> fmt::Result {
+        let Wrong(k, written, why) = *self;
+        // numbers are counted from 1
+        let k = k.saturating_add(1);
+        match written {
+            Some(Written { number, at }) => {
+                write!(f, "number {k} is {number}, and {why}{}", Where(at))
+            }
+            None => write!(f, "number {k} is missing, and {why}"),
+        }
+    }
+}
+
 impl fmt::Display for Complaint {
     fn fmt<W: fmt::Write>(&self, f: &mut fmt::Formatter<W>) -> fmt::Result {
-        let count = self.count;
-        let number = self.number;
-        let at = Where(self.at);
-        match self.fault {
+        let Complaint {
+            fault,
+            count,
+            number,
+            step,
+        } = *self;
+        match fault {
             Fault::Size(size) => write!(
                 f,
                 "{count} numbers, and a table of this program has {size}"
             ),
             Fault::Flag(k) => {
-                let k = k.saturating_add(1);
-                write!(
-                    f,
-                    "number {k} is {number}, and a place begins with 1, or with 0 where nothing comes{at}"
-                )
+                let why = "a place begins with 1, or with 0 where nothing comes";
+                write!(f, "{}", Wrong(k, number, why))
             }
             Fault::Blank(k) => {
-                let k = k.saturating_add(1);
-                write!(
-                    f,
-                    "number {k} is {number}, and behind a 0, where nothing comes, there are only zeros{at}"
-                )
+                let why = "behind a 0, where nothing comes, there are only zeros";
+                write!(f, "{}", Wrong(k, number, why))
             }
             Fault::Start(miss) => write!(f, "a run begins at place 0 {}", Missed(miss)),
             Fault::NotCarried(n, Place(to), miss) => {
-                write!(
-                    f,
-                    "{} leads to place {to} {}",
-                    At(n, self.step),
-                    Missed(miss)
-                )
+                write!(f, "{} leads to place {to} {}", At(n, step), Missed(miss))
             }
         }
     }
 }
 
 impl From<AllocError> for Error {
+    ghost from_gives = { λ _ r. r ≡ Memory };
+
     fn from(_e: AllocError) -> Error {
-        Error::Memory
+        Self::Memory
     }
 }
 

@@ -32,21 +32,14 @@ enum Call {
 }
 
 fn asked(rt: &HostRuntime) -> Result<Call, Error> {
+    let words = env::args(rt).map_err(|_| Error::Usage(USAGE))?;
     let mut file = None;
-    let words = match env::args(rt) {
-        Ok(words) => words,
-        Err(_) => return Err(Error::Usage(USAGE)),
-    };
     for word in words.skip(1) {
         match word.as_str() {
             "--help" => return Ok(Call::Help),
             "--list" => {}
-            _ => {
-                if file.is_some() || word.as_str().starts_with("--") {
-                    return Err(Error::Usage(USAGE));
-                }
-                file = Some(word);
-            }
+            name if file.is_none() && !name.starts_with("--") => file = Some(word),
+            _ => return Err(Error::Usage(USAGE)),
         }
     }
     Ok(Call::List(file))
@@ -56,8 +49,8 @@ fn list(rt: &HostRuntime, file: Option<String>) -> Result<String, Error> {
     let heap = rt.alloc();
     let mut buffer = vec![in heap; 0u8; report::TEXT + 1]?;
     let mut rows = vec![in heap; 0i64; report::NUMBERS]?;
-    let n = report::read_text(rt, file, &mut buffer)?;
-    report::list_text(heap, &buffer[0..n], &mut rows)
+    let text = report::read_text(rt, file, &mut buffer)?;
+    report::list_text(heap, text, &mut rows)
 }
 
 fn run(rt: &HostRuntime) -> Result<String, Error> {
@@ -67,10 +60,6 @@ fn run(rt: &HostRuntime) -> Result<String, Error> {
     }
 }
 
-// What is refused is said already, so `main` ends with the status alone.
 fn main(rt: HostRuntime) -> ExitCode {
-    match report::finish(&rt, run(&rt)) {
-        Ok(()) => ExitCode::SUCCESS,
-        Err(_) => ExitCode::FAILURE,
-    }
+    report::finish(&rt, run(&rt))
 }

@@ -5,10 +5,8 @@ use Rattle.program.specs.declared.Step.{Step}
 use Rattle.program.specs.Program.{Prog}
 use Rattle.program.specs.Rows.{Program}
 use Rattle.program.specs.Says.{Refused}
-use Rattle.report.specs.declared.list.Unlisted.{Unlisted}
-use Rattle.report.specs.declared.list.Unlisted.TheVariants.{NoProgram, Memory}
 use Rattle.message.specs.declared.Error.{Error}
-use Rattle.message.specs.declared.Error.TheVariants.{Usage, File, Stdin, Stdout, TooLong, Steps, Text, ProgramText, TableText, NumbersText, Unread, BadTable, Small, OutFull, NoProgram as NoProgramIn, Memory as OutOfMemory}
+use Rattle.message.specs.declared.Error.TheVariants.{Usage, File, Stdin, Stdout, TooLong, Steps, Text, ProgramText, TableText, NumbersText, Unread, BadTable, Small, OutFull, NoProgram, Memory}
 use Rattle.text.specs.Numbers.{reading, placed}
 use Rattle.words.specs.Words.{step_words}
 
@@ -36,27 +34,10 @@ end_line k = codes "# " ++ (decimal k ++ codes " end\n")
 abbrev pub listing_of : Prog → List ℕ
 listing_of p = ((variables_line p.vars ++ array_lines 0 p.arrays) ++ step_lines 0 p.code) ++ end_line (length p.code)
 
-abbrev pub ListingSays : List ℤ → Result (String Global) Unlisted → Type 0
-ListingSays s (Ok out) = (p : Prog) × Program s p × (string_bytes out ≡ listing_of p)
-ListingSays s (Err (NoProgram f)) = Refused s f
-ListingSays s (Err Memory) = Unit {0}
-
 -- of a text, with room for so many numbers
 abbrev pub ListTextSays : List ℕ → ℕ → Result (String Global) Error → Type 0
 ListTextSays t room (Ok out) = (s : List ℤ) × (p : Prog) × (reading room t ≡ Ok s) × Program s p × (string_bytes out ≡ listing_of p)
-ListTextSays t room (Err (NoProgramIn f at)) = (s : List ℤ) × (reading room t ≡ Ok s) × Refused s f × (at ≡ placed t f.at)
+ListTextSays t room (Err (NoProgram f at)) = (s : List ℤ) × (reading room t ≡ Ok s) × Refused s f × (at ≡ placed t f.at)
 ListTextSays t room (Err (Text f)) = reading room t ≡ Err f
-ListTextSays t room (Err OutOfMemory) = Unit {0}
-ListTextSays t room (Err (Usage u)) = ⊥
-ListTextSays t room (Err (File name e)) = ⊥
-ListTextSays t room (Err (Stdin e)) = ⊥
-ListTextSays t room (Err (Stdout e)) = ⊥
-ListTextSays t room (Err (TooLong n)) = ⊥
-ListTextSays t room (Err (ProgramText f)) = ⊥
-ListTextSays t room (Err (TableText f)) = ⊥
-ListTextSays t room (Err (Unread f at)) = ⊥
-ListTextSays t room (Err (BadTable c)) = ⊥
-ListTextSays t room (Err (Steps u)) = ⊥
-ListTextSays t room (Err (NumbersText f)) = ⊥
-ListTextSays t room (Err (Small a b)) = ⊥
-ListTextSays t room (Err (OutFull n)) = ⊥
+ListTextSays t room (Err Memory) = Unit {0}
+ListTextSays t room (Err e) = ⊥

@@ -18,9 +18,9 @@ pub const SHOWN: usize = 16384;
 
 pub const WORK: usize = 397568;
 
-// Reads until the buffer is full or nothing more comes, and says how many bytes came.
-fn fill<R: Read>(from: &mut R, buffer: &mut [u8]) -> io::Result<usize>
-    ensures { IfOk result (λ n. n ≤ length buffer.old) }
+// What comes until the buffer is full or nothing more comes, in front of the buffer.
+fn fill<'a, R: Read>(from: &mut R, buffer: &'a mut [u8]) -> io::Result<&'a [u8]>
+    ensures { IfOk result (λ text. length text.now ≤ length buffer.old) }
 {
     let mut at = 0;
     while at < buffer.len() {
@@ -30,35 +30,30 @@ fn fill<R: Read>(from: &mut R, buffer: &mut [u8]) -> io::Result<usize>
         }
         at += n;
     }
-    Ok(at)
+    Ok(&buffer[..at])
 }
 
-// The length of a text that was read, if it is not too long.
-fn checked(n: usize) -> Result<usize, Error>
-    ensures { IfOk result (λ m. m ≤ n) }
+fn fill_from_file<'a>(rt: &HostRuntime, name: &str, buffer: &'a mut [u8]) -> io::Result<&'a [u8]>
+    ensures { IfOk result (λ text. length text.now ≤ length buffer.old) }
 {
-    if n > TEXT {
+    fill(&mut fs::open(rt, name)?, buffer)
+}
+
+// The text of a file, or of standard input without one, in front of a buffer with room for one byte more than a text may have.
+pub fn read_text<'a>(
+    rt: &HostRuntime,
+    file: Option<String>,
+    buffer: &'a mut [u8],
+) -> Result<&'a [u8], Error>
+    ensures few { IfOk result (λ text. length text.now ≤ length buffer.old) }
+    ensures most { IfOk result (λ text. length text.now ≤ TEXT) }
+{
+    let text = match file {
+        Some(name) => fill_from_file(rt, name.as_str(), buffer).map_err(|e| Error::File(name, e))?,
+        None => fill(&mut rt.stdin(), buffer).map_err(Error::Stdin)?,
+    };
+    if text.len() > TEXT {
         return Err(Error::TooLong(TEXT));
     }
-    Ok(n)
-}
-
-// The text of a file, or of standard input without one, into a buffer with room for one byte more than a text may have.
-pub fn read_text(rt: &HostRuntime, file: Option<String>, buffer: &mut [u8]) -> Result<usize, Error>
-    ensures { IfOk result (λ n. n ≤ length buffer.old) }
-{
-    let Some(name) = file else {
-        return match fill(&mut rt.stdin(), buffer) {
-            Ok(n) => checked(n),
-            Err(e) => Err(Error::Stdin(e)),
-        };
-    };
-    let filled = match fs::open(rt, name.as_str()) {
-        Ok(mut open) => fill(&mut open, buffer),
-        Err(e) => Err(e),
-    };
-    match filled {
-        Ok(n) => checked(n),
-        Err(e) => Err(Error::File(name, e)),
-    }
+    Ok(text)
 }

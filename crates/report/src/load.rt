@@ -1,59 +1,47 @@
 // Programs, tables and numbers from their texts.
 
 ghost use Rattle.std.specs.Prelude.{◌≡◌, ◌≤◌, length, IfOk};
-ghost use Rattle.report.specs.Loading.{ExplainsTable, LoadProgramSays, LoadTableSays, LoadNumbersSays};
+ghost use Rattle.program.specs.Rows.{row_p};
+ghost use Rattle.text.specs.Numbers.{reading};
+ghost use Rattle.report.specs.Loading.{in_hand, LoadProgramSays, LoadTableSays, LoadNumbersSays};
 
-use crate::check::complaint;
+use crate::check::explained;
 use message::Error;
-use table::NotGood;
+use program::Program;
+use text::Refusal;
 
-// Why the table, which has this text, is not good.
-pub(crate) fn explained(text: &[u8], rows: &[i64], table: &[i64], why: NotGood) -> Error
-    ensures { ExplainsTable why result }
+// The numbers of a text, in front of `numbers`.
+pub(crate) fn numbers_in<'a>(text: &[u8], numbers: &'a mut [i64]) -> Result<&'a [i64], Refusal>
+    ensures read { in_hand result ≡ reading (length numbers.old) text.now }
+    ensures few { IfOk result (λ s. length s.now ≤ length numbers.old) }
 {
-    match why {
-        NotGood::Unread(refusal) => Error::Unread(refusal, None),
-        NotGood::BadTable(fault) => Error::BadTable(complaint(rows, table, text, fault)),
-    }
+    let n = text::read(text, numbers)?;
+    Ok(&numbers[..n])
 }
 
-// Puts the rows of a program in front of `rows`, and says how many there are.
-pub fn load_program(text: &[u8], rows: &mut [i64]) -> Result<usize, Error>
-    ensures few { IfOk result (λ n. n ≤ length rows.old) }
-    ensures says { LoadProgramSays text.now (length rows.old) rows.new result }
+// The program whose rows a text has; `rows` is lent for them.
+pub fn load_program<'a>(text: &[u8], rows: &'a mut [i64]) -> Result<Program<'a>, Error>
+    ensures few { IfOk result (λ p. length (row_p p) ≤ length rows.old) }
+    ensures says { LoadProgramSays text.now (length rows.old) result }
 {
-    let n = match text::read(text, rows) {
-        Ok(n) => n,
-        Err(refusal) => return Err(Error::ProgramText(refusal)),
-    };
-    match program::read(&rows[0..n]) {
-        Ok(_) => Ok(n),
-        Err(refusal) => Err(Error::Unread(refusal, text::position(text, refusal.at))),
-    }
+    let rows = numbers_in(text, rows).map_err(Error::ProgramText)?;
+    program::read(rows).map_err(|why| Error::Unread(why, text::position(text, why.at)))
 }
 
-// Puts the numbers of a table that holds for the program in front of `numbers`, and says how many there are.
-pub fn load_table(text: &[u8], rows: &[i64], numbers: &mut [i64]) -> Result<usize, Error>
-    ensures few { IfOk result (λ n. n ≤ length numbers.old) }
-    ensures says { LoadTableSays text.now rows.now (length numbers.old) numbers.new result }
+// The numbers of a table that holds for the program, in front of `numbers`.
+pub fn load_table<'a>(text: &[u8], rows: &[i64], numbers: &'a mut [i64]) -> Result<&'a [i64], Error>
+    ensures few { IfOk result (λ l. length l.now ≤ length numbers.old) }
+    ensures says { LoadTableSays text.now rows.now (length numbers.old) result }
 {
-    let n = match text::read(text, numbers) {
-        Ok(n) => n,
-        Err(refusal) => return Err(Error::TableText(refusal)),
-    };
-    match table::check(rows, &numbers[0..n]) {
-        Ok(_) => Ok(n),
-        Err(why) => Err(explained(text, rows, &numbers[0..n], why)),
-    }
+    let table = numbers_in(text, numbers).map_err(Error::TableText)?;
+    table::check(rows, table).map_err(|why| explained(None, Some(text), rows, table, why))?;
+    Ok(table)
 }
 
-// Puts the numbers that are handed in in front of `numbers`, and says how many there are.
-pub fn load_numbers(text: &[u8], numbers: &mut [i64]) -> Result<usize, Error>
-    ensures few { IfOk result (λ n. n ≤ length numbers.old) }
-    ensures says { LoadNumbersSays text.now (length numbers.old) numbers.new result }
+// The numbers that are handed in, in front of `numbers`.
+pub fn load_numbers<'a>(text: &[u8], numbers: &'a mut [i64]) -> Result<&'a [i64], Error>
+    ensures few { IfOk result (λ l. length l.now ≤ length numbers.old) }
+    ensures says { LoadNumbersSays text.now (length numbers.old) result }
 {
-    match text::read(text, numbers) {
-        Ok(n) => Ok(n),
-        Err(refusal) => Err(Error::NumbersText(refusal)),
-    }
+    numbers_in(text, numbers).map_err(Error::NumbersText)
 }

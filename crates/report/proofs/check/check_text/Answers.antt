@@ -1,26 +1,15 @@
-use Rattle.std.proofs.Common.{◌-◌, take}
-use Rattle.report.proofs.Texts.{taken, not_good}
+use Rattle.std.proofs.Common.{length, Err, sym, ap, ◌∙◌, subst, rules}
+use Rattle.std.proofs.lemmas.Result.{err_from_is_err_and}
+use Rattle.report.specs.Checking.{CheckTextSays}
+use Rattle.report.proofs.Texts.{not_good}
 use Rattle.report.proofs.check.check_text.Goals as goal
 
-pub returns-in-Err-check : goal.returns-in-Err-check
-returns-in-Err-check c =
-    not_good c.args.program.now c.args.table.now _ _ (take (c.in-Ok.n - 0) c.read.new.numbers) (take (c.in-Ok-read.m - 0) c.read-2.new.numbers) c.in-Err-check.why c.explained.result
-    (taken _ _ _ c.in-Ok.n c.in-Ok.ensures.answers)
-    (taken _ _ _ c.in-Ok-read.m c.in-Ok-read.ensures.answers)
-    c.in-Err-check.ensures.says
-    c.explained.ensures
-
-pub returns-in-Ok-from_str : goal.returns-in-Ok-from_str
-returns-in-Ok-from_str c =
-    let found = c.in-Ok-check.ensures.says in (
-      take (c.in-Ok.n - 0) c.read.new.numbers,
-      take (c.in-Ok-read.m - 0) c.read-2.new.numbers,
-      found.0,
-      found.1,
-      taken _ _ _ c.in-Ok.n c.in-Ok.ensures.answers,
-      taken _ _ _ c.in-Ok-read.m c.in-Ok-read.ensures.answers,
-      found.2,
-      found.4,
-      found.5,
-      c.in-Ok-from_str.ensures.ok,
-    )
+pub returns-in_err-map_err : goal.returns-in_err-map_err
+returns-in_err-map_err c =
+    let u = c.args.program.now in
+    let v = c.args.table.now in
+    let m = length c.args.rows.now in
+    let n = length c.args.numbers.now in
+    let p = err_from_is_err_and c.from_residual-in_err-map_err.result c.from_residual-in_err-map_err.ensures.1 in
+    subst (CheckTextSays u v m n) (sym (p.1 ∙ ap Err p.2))
+    (not_good u v m n c.in_ok-rows.rows.now c.in_ok-numbers.numbers.now (search rules) (search rules) c.in_err-map_err.field-0.0 c.check.result c.check.ensures.says (search rules))

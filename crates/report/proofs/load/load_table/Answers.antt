@@ -1,18 +1,14 @@
-use Rattle.std.proofs.Common.{take, Err, ◌∙◌, subst}
-use Rattle.table.specs.Says.{CheckSays}
-use Rattle.report.proofs.Texts.{front, taken_front, fits_room, not_loaded}
+use Rattle.std.proofs.Common.{length, Err, sym, ap, ◌∙◌, subst, rules}
+use Rattle.std.proofs.lemmas.Result.{err_from_is_err_and}
+use Rattle.report.specs.Loading.{LoadTableSays}
+use Rattle.report.proofs.Texts.{not_loaded}
 use Rattle.report.proofs.load.load_table.Goals as goal
 
-pub returns-in-Ok-check : goal.returns-in-Ok-check
-returns-in-Ok-check c =
-    let found = c.in-Ok-check.ensures.says in
-    record {
-      few = fits_room c.in-Ok.n c.read.new.numbers _ c.args.numbers.now c.in-Ok.ensures.answers c.read.auto.numbers;
-      says = (found.0, found.1, taken_front _ _ _ c.in-Ok.n c.in-Ok.ensures.answers, found.2, found.4 ∙ front c.in-Ok.n c.read.new.numbers, found.5);
-    }
-
-pub returns-in-Err-check : goal.returns-in-Err-check
-returns-in-Err-check c =
-    let n = c.in-Ok.n in
-    let s = c.read.new.numbers in
-    record { few = tt; says = not_loaded c.args.text.now c.args.rows.now _ s (take n s) c.in-Err-check.why c.explained.result (taken_front _ _ _ n c.in-Ok.ensures.answers) (subst (λ l. CheckSays c.args.rows.now l (Err c.in-Err-check.why)) (front n s) c.in-Err-check.ensures.says) c.explained.ensures }
+pub returns-in_err-map_err-clause-says : goal.returns-in_err-map_err-clause-says
+returns-in_err-map_err-clause-says c =
+    let u = c.args.text.now in
+    let s = c.args.rows.now in
+    let room = length c.args.numbers.now in
+    let p = err_from_is_err_and c.from_residual-in_err-map_err.result c.from_residual-in_err-map_err.ensures.1 in
+    subst (LoadTableSays u s room) (sym (p.1 ∙ ap Err p.2))
+    (not_loaded u s room c.in_ok-table.table.now (search rules) c.in_err-map_err.field-0.0 c.check.result c.check.ensures.says (search rules))
