@@ -13,7 +13,7 @@ use Rattle.table.specs.declared.NotGood.TheVariants.{Unread as UnreadRows, BadTa
 use Rattle.table.specs.Looking.{fault_in}
 use Rattle.message.specs.declared.Complaint.{Complaint}
 use Rattle.message.specs.declared.Error.{Error}
-use Rattle.message.specs.declared.Error.TheVariants.{Usage, File, Stdin, Stdout, TooLong, Steps, Text, ProgramText, TableText, NumbersText, Unread, BadTable, Small, OutFull, NoProgram, Memory}
+use Rattle.message.specs.declared.Error.TheVariants.{ProgramText, TableText, Unread, BadTable, Memory}
 
 -- an error that says why a table is not good, with a place in the program's text, if there is one
 abbrev pub Explains : Option (List ℕ) → NotGood → Error → Type 0

@@ -12,7 +12,7 @@ use Rattle.table.specs.Looking.{fault_in}
 use Rattle.table.specs.Licences.{licensed}
 use Rattle.words.specs.Words.{step_words}
 use Rattle.message.specs.declared.Error.{Error}
-use Rattle.message.specs.declared.Error.TheVariants.{Usage, File, Stdin, Stdout, TooLong, Steps, Text, ProgramText, TableText, NumbersText, NoProgram, Unread, BadTable, Small, OutFull, Memory}
+use Rattle.message.specs.declared.Error.TheVariants.{Unread, BadTable, Memory}
 
 abbrev pub test_line : Bool → ℕ → Step → List ℕ
 test_line sure k i = cond sure (codes "# licence ") (codes "# test ") ++ (decimal k ++ (codes " " ++ (step_words i ++ codes "\n")))

@@ -6,7 +6,7 @@ use Rattle.program.specs.Program.{Prog}
 use Rattle.program.specs.Rows.{Program}
 use Rattle.program.specs.Says.{Refused}
 use Rattle.message.specs.declared.Error.{Error}
-use Rattle.message.specs.declared.Error.TheVariants.{Usage, File, Stdin, Stdout, TooLong, Steps, Text, ProgramText, TableText, NumbersText, Unread, BadTable, Small, OutFull, NoProgram, Memory}
+use Rattle.message.specs.declared.Error.TheVariants.{Text, NoProgram, Memory}
 use Rattle.text.specs.Numbers.{reading, placed}
 use Rattle.words.specs.Words.{step_words}
 

@@ -9,7 +9,7 @@ use Rattle.table.specs.Looking.{fault_in}
 use denote.Ref.{Bor}
 use Rattle.text.specs.Numbers.{reading, placed}
 use Rattle.message.specs.declared.Error.{Error}
-use Rattle.message.specs.declared.Error.TheVariants.{Usage, File, Stdin, Stdout, TooLong, Steps, Text, ProgramText, TableText, NumbersText, NoProgram, Unread, BadTable, Small, OutFull, Memory}
+use Rattle.message.specs.declared.Error.TheVariants.{ProgramText, TableText, NumbersText, Unread, BadTable}
 
 -- the numbers that are lent
 abbrev pub in_hand : {E : Type 0} → Result (Bor (List ℤ)) E → Result (List ℤ) E

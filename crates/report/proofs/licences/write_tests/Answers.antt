@@ -1,4 +1,4 @@
-use Rattle.std.proofs.Common.{◌≡◌, ◌+◌, ◌++◌, string_bytes, sym, ap, ◌∙◌, subst}
+use Rattle.std.proofs.Common.{◌≡◌, ◌+◌, ◌++◌, string_bytes, sym, ap, ◌∙◌}
 use Rattle.program.proofs.Walk.{turn}
 use Rattle.report.specs.Licences.{line_at, test_lines}
 use Rattle.report.proofs.Lines.{line_more}

@@ -1,4 +1,4 @@
-use Rattle.std.proofs.Common.{string_bytes, ap, ◌∙◌, ◌++◌, length}
+use Rattle.std.proofs.Common.{string_bytes, ap, ◌∙◌, ◌++◌}
 use Rattle.std.proofs.lemmas.Result.{IfOk-weaker}
 use Rattle.report.specs.Listing.{variables_line, end_line}
 use Rattle.report.proofs.Lines.{listing_parts}
