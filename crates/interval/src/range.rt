@@ -1,7 +1,7 @@
 // Ranges.
 
 ghost use Rattle.std.specs.Prelude.{◌≡◌, ◌≤◌};
-ghost use Rattle.interval.specs.Ranges.{any, cut, join, plus, minus, scaled, inside, inside1};
+ghost use Rattle.interval.specs.Ranges.{any, only, cut, join, plus, minus, scaled, inside, inside1};
 ghost use Rattle.interval.specs.Boxes.{left, range_of};
 ghost use Rattle.interval.specs.Tests.{in_bits, in_array};
 
@@ -21,7 +21,7 @@ impl Range {
     };
 
     pub(crate) fn only(z: i64) -> Range
-        ensures { result ≡ record { lo = z; hi = z } }
+        ensures { result ≡ only z }
     {
         Range { lo: z, hi: z }
     }

@@ -22,14 +22,14 @@ fn less_than(r: Range) -> Option<Range>
     ensures { Cut result (record { lo = low; hi = r.hi -ℤ pos 1 }) }
 {
     let hi = number::difference(r.hi, 1)?;
-    Some(Range { lo: i64::MIN, hi })
+    Some(Range { hi, ..Range::ANY })
 }
 
 fn more_than(r: Range) -> Option<Range>
     ensures { Cut result (record { lo = r.lo +ℤ pos 1; hi = high }) }
 {
     let lo = number::sum(r.lo, 1)?;
-    Some(Range { lo, hi: i64::MAX })
+    Some(Range { lo, ..Range::ANY })
 }
 
 fn if_less(numbers: &mut [i64], a: Operand, b: Operand) -> Option<()>
