@@ -125,16 +125,11 @@ impl WideRange {
     pub(crate) fn cut(self) -> Option<Range>
         ensures { result ≡ left (cut (range_of self) any) }
     {
-        let lo = match self.lo.narrow() {
-            Some(z) => z,
-            None if self.lo.negative() => i64::MIN,
-            None => return None,
-        };
-        let hi = match self.hi.narrow() {
-            Some(z) => z,
-            None if self.hi.negative() => return None,
-            None => i64::MAX,
-        };
+        let lo = self.lo.narrow().or(self.lo.negative().then_some(i64::MIN))?;
+        let hi = self
+            .hi
+            .narrow()
+            .or((!self.hi.negative()).then_some(i64::MAX))?;
         Range { lo, hi }.left()
     }
 

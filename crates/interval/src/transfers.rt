@@ -60,7 +60,6 @@ fn jump(step: Step, numbers: &mut [i64]) -> Option<()>
     }
 }
 
-#[tactic(auto, using(crate::proofs::Ends::ends))]
 fn go_on(step: Step, words: usize, numbers: &mut [i64]) -> Option<()>
     requires { words ≤ 65536 }
     ensures { at_of result numbers.new ≡ makes words Next step (box_of numbers.old) }
