@@ -1,7 +1,7 @@
 // Ranges.
 
 ghost use Rattle.std.specs.Prelude.{◌≡◌, ◌≤◌};
-ghost use Rattle.interval.specs.Ranges.{any, cut, join, plus, minus, scaled, inside, inside1};
+ghost use Rattle.interval.specs.Ranges.{any, only, cut, join, plus, minus, scaled, inside, inside1};
 ghost use Rattle.interval.specs.Boxes.{left, range_of};
 ghost use Rattle.interval.specs.Tests.{in_bits, in_array};
 
@@ -21,7 +21,7 @@ impl Range {
     };
 
     pub(crate) fn only(z: i64) -> Range
-        ensures { result ≡ record { lo = z; hi = z } }
+        ensures { result ≡ only z }
     {
         Range { lo: z, hi: z }
     }
@@ -125,16 +125,11 @@ impl WideRange {
     pub(crate) fn cut(self) -> Option<Range>
         ensures { result ≡ left (cut (range_of self) any) }
     {
-        let lo = match self.lo.narrow() {
-            Some(z) => z,
-            None if self.lo.negative() => i64::MIN,
-            None => return None,
-        };
-        let hi = match self.hi.narrow() {
-            Some(z) => z,
-            None if self.hi.negative() => return None,
-            None => i64::MAX,
-        };
+        let lo = self.lo.narrow().or(self.lo.negative().then_some(i64::MIN))?;
+        let hi = self
+            .hi
+            .narrow()
+            .or((!self.hi.negative()).then_some(i64::MAX))?;
         Range { lo, hi }.left()
     }
 

@@ -22,14 +22,14 @@ fn less_than(r: Range) -> Option<Range>
     ensures { Cut result (record { lo = low; hi = r.hi -ℤ pos 1 }) }
 {
     let hi = number::difference(r.hi, 1)?;
-    Some(Range { lo: i64::MIN, hi })
+    Some(Range { hi, ..Range::ANY })
 }
 
 fn more_than(r: Range) -> Option<Range>
     ensures { Cut result (record { lo = r.lo +ℤ pos 1; hi = high }) }
 {
     let lo = number::sum(r.lo, 1)?;
-    Some(Range { lo, hi: i64::MAX })
+    Some(Range { lo, ..Range::ANY })
 }
 
 fn if_less(numbers: &mut [i64], a: Operand, b: Operand) -> Option<()>
@@ -60,7 +60,6 @@ fn jump(step: Step, numbers: &mut [i64]) -> Option<()>
     }
 }
 
-#[tactic(auto, using(crate::proofs::Ends::ends))]
 fn go_on(step: Step, words: usize, numbers: &mut [i64]) -> Option<()>
     requires { words ≤ 65536 }
     ensures { at_of result numbers.new ≡ makes words Next step (box_of numbers.old) }
