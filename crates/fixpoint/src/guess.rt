@@ -47,12 +47,12 @@ fn move_hop(
     requires there { to ≤ counts.steps }
     ensures { Moved counts to (moved_by words (table_in counts guess.now) n to step way (table_in counts table.old)) table.old table.new result }
 {
-    if !make(guess, counts, n, step, way, words, made) {
+    let Some(made) = make(guess, counts, n, step, way, words, made) else {
         return false;
-    }
-    if !make(table, counts, n, step, way, words, grown) {
+    };
+    let Some(grown) = make(table, counts, n, step, way, words, grown) else {
         return false;
-    }
+    };
     move_place(table, counts, to, guess, made, grown)
 }
 

@@ -37,11 +37,11 @@ fn hop(
     requires there { to ≤ counts.steps }
     ensures { Joined counts to (after words way step (at (table_in counts table.old) n)) table.old table.new result }
 {
-    if !make(table, counts, n, step, way, words, out) {
+    let Some(made) = make(table, counts, n, step, way, words, out) else {
         return false;
-    }
-    note_place(notes, table, counts.vars, to, out, hop_number(n, way));
-    join_place(table, counts, to, out)
+    };
+    note_place(notes, table, counts.vars, to, made, hop_number(n, way));
+    join_place(table, counts, to, made)
 }
 
 fn hops(

@@ -19,15 +19,16 @@ fn lower_range(guess: &mut [i64], x: Var, back: Range, note: Range, hop: i64) ->
         r.hi = back.hi;
     }
     interval::set_range(guess, x, r);
-    r.lo != was.lo || r.hi != was.hi
+    r != was
 }
 
 fn lower_box(guess: &mut [i64], table: &[i64], made: &[i64], notes: &[i64], hop: i64) -> bool {
     let mut changed = false;
-    for k in 0..made.len() / 2 {
+    let sides = interval::ranges(made).zip(interval::ranges(notes));
+    for (k, (q, note)) in sides.enumerate() {
         let x = Var(k);
-        let back = interval::range_at(table, x).join(interval::range_at(made, x));
-        changed = changed | lower_range(guess, x, back, interval::range_at(notes, x), hop);
+        let back = interval::range_at(table, x).join(q);
+        changed |= lower_range(guess, x, back, note, hop);
     }
     changed
 }
@@ -82,9 +83,9 @@ fn lower_hop(
     requires here { n ≤ counts.steps }
     requires there { to ≤ counts.steps }
 {
-    if !fixpoint::make(guess, counts, n, step, way, words, made) {
+    let Some(made) = fixpoint::make(guess, counts, n, step, way, words, made) else {
         return false;
-    }
+    };
     let hop = fixpoint::hop_number(n, way);
     lower_place(guess, counts.vars, to, table, made, notes, hop)
 }
