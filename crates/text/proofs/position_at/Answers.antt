@@ -1,10 +1,8 @@
-use Rattle.std.proofs.Common.{◌≡◌, ◌+◌, ◌∙◌, sym, ap, take, not, eqb, reverse, rules, tests}
+use Rattle.std.proofs.Common.{◌≡◌, ◌+◌, ◌∙◌, sym, take, not, eqb, reverse, rules, tests}
 use Rattle.std.specs.List.{count_by, prefix_len}
-use Rattle.std.proofs.lemmas.Iterator.{YieldsList-from_slice}
 use Rattle.std.proofs.lemmas.Iterator.Adapters.{YieldsList-from_rev_slice}
-use Rattle.std.proofs.lemmas.Iterator.Consumers.{count_from_yields_List, YieldsList-from_filter, YieldsList-at}
+use Rattle.std.proofs.lemmas.Iterator.Consumers.{count_from_yields_List, YieldsList-at}
 use Rattle.std.proofs.lemmas.Iterator.Search.{YieldsList-from_take_while}
-use Rattle.std.proofs.lemmas.List.Sums.{length-filter}
 use Rattle.std.proofs.lemmas.List.Folds.{length-prefix_len}
 use Rattle.text.proofs.Places.{feeds_counted, since_counted}
 use Rattle.text.proofs.position_at.Goals as goal

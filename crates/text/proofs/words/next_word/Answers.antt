@@ -1,5 +1,5 @@
 use Rattle.std.proofs.Common.{sym}
-use Rattle.text.proofs.Scans.{gap-all, skip_comment, skip_separator}
+use Rattle.text.proofs.Scans.{skip_comment, skip_separator}
 use Rattle.text.proofs.words.next_word.Goals as goal
 use Rattle.text.proofs.words.next_word.Goals.{then-comment, else-comment+then-is_separator}
 
