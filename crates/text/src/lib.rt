@@ -108,12 +108,6 @@ pub fn position(text: &[u8], index: usize) -> Option<Position>
     Some(position_at(text, word.start))
 }
 
-fn append(out: &mut String, number: i64) -> Result<(), AllocError>
-    ensures { OnOk result (string_bytes out.new ≡ string_bytes out.old ++ signed_decimal number) }
-{
-    write!(out, "{number}")
-}
-
 /// Appends the numbers with a space between, and a line feed.
 ///
 /// Where memory fails, nothing is promised of `out`.
@@ -123,10 +117,9 @@ pub fn write_line(out: &mut String, numbers: &[i64]) -> Result<(), AllocError>
     let [first, rest @ ..] = numbers else {
         return out.push('\n');
     };
-    append(out, *first)?;
+    write!(out, "{first}")?;
     for number in rest {
-        out.push(' ')?;
-        append(out, *number)?;
+        write!(out, " {number}")?;
     }
     out.push('\n')
 }
