@@ -30,6 +30,7 @@ gap-all false bs i h = at_drop_all (scan between i) bs i h
 abbrev pub solid : List ℕ → ℕ
 solid bs = prefix_len (λ b. not (separator b)) bs
 
+-- the word of the bytes `w` and then `n` more, which began at `k`
 abbrev Cut : State → List ℕ → ℕ → ℕ → List ℕ → ℕ → Type 0
 Cut s w k i bs n = scan s i bs ≡ record { start = k; bytes = w ++ take n bs } ∷ scan between (i + n) (drop n bs)
 
@@ -48,6 +49,7 @@ word_on (b ∷ bs) k w i = go (separator b) refl (word_on bs k (w ++ b ∷ []) (
         let on : suc i + solid bs ≡ i + suc (solid bs) = omega arith in
         subst (Cut (inside k w) w k i (b ∷ bs)) (sym more) (rw (e, scan) (same ∙ (λ j. record { start = k; bytes = append_assoc w (b ∷ []) (take (solid bs) bs) j } ∷ scan between (on j) (drop (solid bs) bs))))
 
+-- a word from its first byte on, and what follows it
 word_cut : (b : ℕ) (bs : List ℕ) (i : ℕ) → separator b ≡ false → Cut between [] i i (b ∷ bs) (solid (b ∷ bs))
 word_cut b bs i e =
     let more : solid (b ∷ bs) ≡ suc (solid bs) = rw e (omega arith) in

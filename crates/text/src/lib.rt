@@ -3,13 +3,12 @@
 //! Words are separated by white space, and `#` begins a comment up to the end of the line.
 #![tactic(auto)]
 
-ghost use Rattle.std.specs.Prelude.{◌≡◌, ◌-◌, ◌<◌, ◌≤◌, true, false, ◌∷◌, ◌++◌, length, drop, string_bytes, OnOk, slice_index, slice_range};
+ghost use Rattle.std.specs.Prelude.{◌≡◌, ◌<◌, ◌++◌, length, string_bytes, OnOk};
 ghost use Rattle.std.specs.Option.{option_map, ok_or};
-ghost use Rattle.std.specs.Fmt.{signed_decimal};
 ghost use Rattle.text.specs.Lines.{line_of, ReadPost};
-ghost use Rattle.text.specs.Numbers.{natural_of, capped, fit, minus, number_of, refused, placed};
+ghost use Rattle.text.specs.Numbers.{natural_of, capped, fit, number_of, refused, placed};
 ghost use Rattle.text.specs.declared.refusal.Reason.TheVariants.{NotANumber};
-ghost use Rattle.text.specs.Words.{separator, between, scan, position_of};
+ghost use Rattle.text.specs.Words.{position_of};
 
 mod refusal;
 #[cfg(test)]
