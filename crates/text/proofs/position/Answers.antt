@@ -17,17 +17,17 @@ found text i s r u e ran = nth_from_yields_List r u i ran (YieldsList-from_first
 pub returns-in_err-word : goal.returns-in_err-word
 returns-in_err-word c =
     let text = c.args.text.now in
-    let none = ap (option_map word_of) (sym c.in_err-word.was) ∙ found text c.args.index _ _ _ c.of.ensures c.nth.ensures.ran in
+    let none = ap (option_map word_of) (sym c.in_err-word.was) ∙ found text _ _ _ _ c.of.ensures c.nth.ensures.ran in
     c.from_residual.ensures ∙ ap (option_map (λ w. position_of text w.start)) none
 
 pub position_at-requires : goal.position_at-requires
 position_at-requires c =
     let text = c.args.text.now in
-    let one = ap (option_map word_of) (sym c.in_ok-word.was) ∙ found text c.args.index _ _ _ c.of.ensures c.nth.ensures.ran in
-    within_at _ _ c.args.index _ (within text) (sym one)
+    let one = ap (option_map word_of) (sym c.in_ok-word.was) ∙ found text _ _ _ _ c.of.ensures c.nth.ensures.ran in
+    within_at _ _ _ _ (within text) (sym one)
 
 pub returns : goal.returns
 returns c =
     let text = c.args.text.now in
-    let one = ap (option_map word_of) (sym c.in_ok-word.was) ∙ found text c.args.index _ _ _ c.of.ensures c.nth.ensures.ran in
+    let one = ap (option_map word_of) (sym c.in_ok-word.was) ∙ found text _ _ _ _ c.of.ensures c.nth.ensures.ran in
     ap Some c.position_at.ensures ∙ ap (option_map (λ w. position_of text w.start)) one
