@@ -90,6 +90,7 @@ pub fn read(text: &[u8], numbers: &mut [i64]) -> Result<usize, Refusal>
     let mut count = 0;
     for word in Words::of(text) {
         let value = number(word.bytes).map_err(|reason| refused_at(text, word.start, reason))?;
+        // Not by `get_mut`, after which no clause says what the slice holds.
         if count == numbers.len() {
             return Err(refused_at(text, word.start, Reason::TooMany(count)));
         }
