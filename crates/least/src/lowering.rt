@@ -65,14 +65,13 @@ fn lower_hop(
     guess: &mut [i64],
     counts: Counts,
     hop: Hop,
-    words: usize,
+    words: u32,
     table: &[i64],
     notes: &[i64],
     made: &mut [i64],
 ) -> bool
     requires few { counts.vars ≤ 64 }
     requires short { counts.steps ≤ 4096 }
-    requires small { words ≤ 65536 }
     requires guess { length guess.old ≡ wants counts }
     requires table { length table.now ≡ wants counts }
     requires notes { length notes.now ≡ wants counts }

@@ -19,7 +19,6 @@ lower_hop-changed-requires c =
     rw c.counts-counts.ensures.exact record {
       few = few_vars (row_p p) p fine;
       short = few_steps (row_p p) p fine;
-      small = c.words_of-words.ensures.few;
       guess = c.loop-hop.auto.guess ∙ c.requires.guess;
       table = c.requires.table;
       notes = c.requires.notes;
