@@ -1,7 +1,7 @@
 // Ranges.
 
 ghost use Rattle.std.specs.Prelude.{◌≡◌, ◌≤◌};
-ghost use Rattle.interval.specs.Ranges.{any, cut, join, plus, minus, scaled, inside, inside1};
+ghost use Rattle.interval.specs.Ranges.{any, only, cut, join, plus, minus, scaled, inside, inside1};
 ghost use Rattle.interval.specs.Boxes.{left, range_of};
 ghost use Rattle.interval.specs.Tests.{in_bits, in_array};
 
@@ -21,7 +21,7 @@ impl Range {
     };
 
     pub(crate) fn only(z: i64) -> Range
-        ensures { result ≡ record { lo = z; hi = z } }
+        ensures { result ≡ only z }
     {
         Range { lo: z, hi: z }
     }
@@ -62,20 +62,18 @@ impl Range {
     }
 
     // The places of an array.
-    pub(crate) fn places(words: usize) -> Range
-        requires { words ≤ 65536 }
+    pub(crate) fn places(words: u32) -> Range
         ensures { result ≡ inside words }
     {
         Range {
             lo: 0,
-            hi: words as i64 - 1,
+            hi: i64::from(words) - 1,
         }
     }
 
     // Whether every number in it is an index of so many.
     #[tactic(auto, using(crate::proofs::Ends::ends))]
-    pub(crate) fn in_array(self, words: usize) -> bool
-        requires { words ≤ 65536 }
+    pub(crate) fn in_array(self, words: u32) -> bool
         ensures { result ≡ in_array words self }
     {
         self.inside(Range::places(words))
@@ -125,16 +123,11 @@ impl WideRange {
     pub(crate) fn cut(self) -> Option<Range>
         ensures { result ≡ left (cut (range_of self) any) }
     {
-        let lo = match self.lo.narrow() {
-            Some(z) => z,
-            None if self.lo.negative() => i64::MIN,
-            None => return None,
-        };
-        let hi = match self.hi.narrow() {
-            Some(z) => z,
-            None if self.hi.negative() => return None,
-            None => i64::MAX,
-        };
+        let lo = self.lo.narrow().or(self.lo.negative().then_some(i64::MIN))?;
+        let hi = self
+            .hi
+            .narrow()
+            .or((!self.hi.negative()).then_some(i64::MAX))?;
         Range { lo, hi }.left()
     }
 

@@ -22,14 +22,14 @@ fn less_than(r: Range) -> Option<Range>
     ensures { Cut result (record { lo = low; hi = r.hi -ℤ pos 1 }) }
 {
     let hi = number::difference(r.hi, 1)?;
-    Some(Range { lo: i64::MIN, hi })
+    Some(Range { hi, ..Range::ANY })
 }
 
 fn more_than(r: Range) -> Option<Range>
     ensures { Cut result (record { lo = r.lo +ℤ pos 1; hi = high }) }
 {
     let lo = number::sum(r.lo, 1)?;
-    Some(Range { lo, hi: i64::MAX })
+    Some(Range { lo, ..Range::ANY })
 }
 
 fn if_less(numbers: &mut [i64], a: Operand, b: Operand) -> Option<()>
@@ -60,9 +60,7 @@ fn jump(step: Step, numbers: &mut [i64]) -> Option<()>
     }
 }
 
-#[tactic(auto, using(crate::proofs::Ends::ends))]
-fn go_on(step: Step, words: usize, numbers: &mut [i64]) -> Option<()>
-    requires { words ≤ 65536 }
+fn go_on(step: Step, words: u32, numbers: &mut [i64]) -> Option<()>
     ensures { at_of result numbers.new ≡ makes words Next step (box_of numbers.old) }
 {
     match step {
@@ -100,12 +98,11 @@ fn go_on(step: Step, words: usize, numbers: &mut [i64]) -> Option<()>
 pub fn transfer<'a>(
     step: Step,
     way: Way,
-    words: usize,
+    words: u32,
     from: &[i64],
     out: &'a mut [i64],
 ) -> Option<&'a [i64]>
-    requires same { length out.old ≡ length from.now }
-    requires few { words ≤ 65536 }
+    requires { length out.old ≡ length from.now }
     ensures made { at_in result ≡ makes words way step (box_of from.now) }
     ensures long { IfSome result (λ r. length r.now ≡ length from.now) }
 {

@@ -1,5 +1,5 @@
 -- The order of whole numbers, and which of them have their place in 64 bits.
-use Rattle.std.specs.Prelude.{◌-◌, ◌^◌, Bool, true, false, cond, not, ◌&&◌, ℤ, pos, negsuc, ◌+ℤ◌, ◌*ℤ◌, Some, None, Option, nat_lt}
+use Rattle.std.specs.Prelude.{◌-◌, ◌^◌, Bool, true, false, cond, not, ◌&&◌, ℤ, pos, negsuc, Some, None, Option, nat_lt}
 use Rattle.number.specs.declared.wide.Wide.{Wide}
 
 abbrev pub less_z : ℤ → ℤ → Bool
@@ -30,6 +30,5 @@ in64 z = le_z low z && le_z z high
 abbrev pub fit : ℤ → Option ℤ
 fit z = cond (in64 z) (Some z) None
 
--- what two words say
 abbrev pub value_of : Wide → ℤ
-value_of w = (w.hi *ℤ pos (2 ^ 64)) +ℤ pos w.lo
+value_of w = w.0

@@ -3,4 +3,3 @@ pub mod Digits
 pub mod Places
 pub mod Progress
 pub mod Laws
-pub mod Writes

@@ -1,52 +1,35 @@
--- Lines and columns, a byte at a time. Assumes nothing.
-use Rattle.std.proofs.Common.{◌≡◌, ℕ, suc, ◌+◌, ◌-◌, ◌<◌, ◌≤◌, List, length, get_or, take, drop, sym, refl, ap, ◌∙◌, arith}
-use native.Mathlib.Nat.{sub-zero}
-use Rattle.std.proofs.lemmas.List.{at_drop_more, at_drop_all}
-use Rattle.std.proofs.lemmas.Bool.{eq-eqb, ne_eqb}
-use Rattle.text.specs.Words.{feeds, since, position_of}
+-- Lines and columns, counted. Assumes nothing.
+use Rattle.std.proofs.Common.{◌≡◌, ℕ, suc, ◌+◌, Bool, true, false, cond, not, eqb, List, [], ◌∷◌, ◌++◌, reverse, sym, refl, ap, ◌∙◌, arith}
+use Rattle.std.specs.List.{count_by, prefix_len}
+use Rattle.std.proofs.lemmas.List.{reverse-append, reverse-reverse}
+use Rattle.std.proofs.lemmas.List.Recursion.{is_count_by}
+use Rattle.text.specs.Words.{feeds, since}
 
--- the line and the column after i bytes
-pub record Counted (bs : List ℕ) (i line column : ℕ) : Type 0 where
-  pub few : line ≤ i + 1
-  pub some : 1 ≤ column
-  pub short : column ≤ i + 1
-  pub lines : line + feeds (drop i bs) ≡ 1 + feeds bs
-  pub columns : since (column - 1) (drop i bs) ≡ since 0 bs
+pub feeds_counted : (bs : List ℕ) → feeds bs ≡ count_by (λ b. eqb b 10) bs
+feeds_counted = is_count_by feeds (λ b. eqb b 10) refl (λ b bs. one (eqb b 10) (feeds bs))
+  where
+    one : (t : Bool) (n : ℕ) → elim t [ true ↦ suc n | false ↦ n ] ≡ cond t (1 + n) n
+    one true n = omega arith
+    one false n = refl
 
-pub counted_none : (bs : List ℕ) → Counted bs 0 1 1
-counted_none bs = record { few = omega arith; some = omega arith; short = omega arith; lines = refl; columns = refl }
+since_push : (bs : List ℕ) (n b : ℕ) → since n (bs ++ b ∷ []) ≡ cond (not (eqb b 10)) (1 + since n bs) 0
+since_push [] n b = last (eqb b 10)
+  where
+    last : (t : Bool) → elim t [ true ↦ 0 | false ↦ suc n ] ≡ cond (not t) (1 + n) 0
+    last true = refl
+    last false = omega arith
+since_push (a ∷ bs) n b = first (eqb a 10) (λ m. since_push bs m b)
+  where
+    first : (t : Bool) → ((m : ℕ) → since m (bs ++ b ∷ []) ≡ cond (not (eqb b 10)) (1 + since m bs) 0) → elim t [ true ↦ since 0 (bs ++ b ∷ []) | false ↦ since (suc n) (bs ++ b ∷ []) ] ≡ cond (not (eqb b 10)) (1 + elim t [ true ↦ since 0 bs | false ↦ since (suc n) bs ]) 0
+    first true more = more 0
+    first false more = more (suc n)
 
-pub counted_feed : (bs : List ℕ) (i line column : ℕ) → i < length bs → get_or bs i 0 ≡ 10 → Counted bs i line column → Counted bs (i + 1) (line + 1) 1
-counted_feed bs i line column h e old =
-    let t = eq-eqb (get_or bs i 0) 10 e in
-    let more : feeds (drop i bs) ≡ suc (feeds (drop (i + 1) bs)) = at_drop_more feeds bs i 0 h ∙ rw (t, feeds) in
-    record {
-      few = omega (arith, old.few);
-      some = omega arith;
-      short = omega arith;
-      lines = omega (arith, old.lines);
-      columns = sym (at_drop_more (since (column - 1)) bs i 0 h ∙ rw (t, since)) ∙ old.columns;
-    }
+since_back : (bs : List ℕ) → since 0 (reverse bs) ≡ prefix_len (λ b. not (eqb b 10)) bs
+since_back [] = refl
+since_back (b ∷ bs) =
+    ap (since 0) (reverse-append (b ∷ []) bs)
+    ∙ since_push (reverse bs) 0 b
+    ∙ ap (λ n. cond (not (eqb b 10)) (1 + n) 0) (since_back bs)
 
-pub counted_other : (bs : List ℕ) (i line column : ℕ) → i < length bs → (get_or bs i 0 ≡ 10 → ⊥) → Counted bs i line column → Counted bs (i + 1) line (column + 1)
-counted_other bs i line column h e old =
-    let t = ne_eqb (get_or bs i 0) 10 e in
-    let more : feeds (drop i bs) ≡ feeds (drop (i + 1) bs) = at_drop_more feeds bs i 0 h ∙ rw (t, feeds) in
-    let one : column + 1 - 1 ≡ suc (column - 1) = omega (arith, old.some) in
-    record {
-      few = omega (arith, old.few);
-      some = omega arith;
-      short = omega (arith, old.short);
-      lines = omega (arith, old.lines);
-      columns = ap (λ n. since n (drop (i + 1) bs)) one ∙ sym (at_drop_more (since (column - 1)) bs i 0 h ∙ rw (t, since)) ∙ old.columns;
-    }
-
-pub counted-all : (text : List ℕ) (place i line column : ℕ) → length (take (place - 0) text) ≤ i → Counted (take (place - 0) text) i line column → record { line = line; column = column } ≡ position_of text place
-counted-all text place i line column h old =
-    let bs = take (place - 0) text in
-    let same = sub-zero place in
-    let none : feeds (drop i bs) ≡ 0 = at_drop_all feeds bs i h in
-    let l : line ≡ 1 + feeds bs = omega (arith, old.lines) in
-    let last : column - 1 ≡ since 0 bs = sym (at_drop_all (since (column - 1)) bs i h) ∙ old.columns in
-    let k : column ≡ 1 + since 0 bs = omega (arith, old.some) in
-    (λ j. record { line = l j; column = k j }) ∙ ap (λ n. record { line = 1 + feeds (take n text); column = 1 + since 0 (take n text) }) same
+pub since_counted : (bs : List ℕ) → since 0 bs ≡ prefix_len (λ b. not (eqb b 10)) (reverse bs)
+since_counted bs = ap (since 0) (sym (reverse-reverse bs)) ∙ since_back (reverse bs)

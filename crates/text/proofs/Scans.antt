@@ -1,82 +1,104 @@
--- The scanner at a place of a text, and one byte on. Assumes nothing.
-use Rattle.std.proofs.Common.{◌≡◌, ℕ, suc, ◌+◌, ◌-◌, ◌<◌, ◌≤◌, Bool, true, false, not, eqb, List, [], ◌∷◌, ◌++◌, length, get_or, take, drop, Some, sym, refl, ap, ◌∙◌, add-one, arith, length-drop, get_or-drop}
-use Rattle.std.specs.List.{slice_get}
-use Rattle.std.specs.Option.{option_map}
-use Rattle.std.proofs.lemmas.List.{at_drop_more, at_drop_all, take_more, drop_more}
-use Rattle.text.specs.Words.{Word, between, comment, inside, gap, separator, scan}
+-- What the scanner makes of the bytes from a place of a text on. Assumes nothing.
+use Rattle.std.proofs.Common.{◌≡◌, ℕ, zero, suc, ◌+◌, ◌<◌, ◌≤◌, Bool, true, false, not, eqb, List, [], ◌∷◌, ◌++◌, length, get_or, take, drop, Some, sym, refl, ap, ◌∙◌, subst, add-one, append_assoc, append-nil, arith}
+use Rattle.std.specs.List.{AllByRecursion, prefix_len, slice_get}
+use Rattle.std.proofs.lemmas.List.{at_drop_more, at_drop_all, drop_more, drop-drop}
+use Rattle.std.proofs.lemmas.List.Folds.{length-prefix_len}
+use Rattle.text.specs.Words.{Word, State, between, comment, inside, gap, separator, scan, words_of}
 
--- in a comment
-pub comment_more : (bs : List ℕ) (i : ℕ) → i < length bs → scan comment i (drop i bs) ≡ scan (gap (not (eqb (get_or bs i 0) 10))) (i + 1) (drop (i + 1) bs)
-comment_more bs i h =
-    at_drop_more (scan comment i) bs i 0 h ∙ ap (λ n. scan (gap (not (eqb (get_or bs i 0) 10))) n (drop (i + 1) bs)) (sym (add-one i))
+-- a loop's step over what stands between words: `was` and `next` say whether it is a comment
+pub skip_comment : (bs : List ℕ) (i : ℕ) (was next : Bool) (ws : List Word) → i < length bs → was ≡ true → next ≡ not (eqb (get_or bs i 0) 10) → scan (gap was) i (drop i bs) ≡ ws → scan (gap next) (i + 1) (drop (i + 1) bs) ≡ ws
+skip_comment bs i was next ws h t n e =
+    ap (λ b. scan (gap b) (i + 1) (drop (i + 1) bs)) n
+    ∙ ap (λ k. scan (gap (not (eqb (get_or bs i 0) 10))) k (drop (i + 1) bs)) (add-one i)
+    ∙ sym (at_drop_more (scan comment i) bs i 0 h)
+    ∙ ap (λ b. scan (gap b) i (drop i bs)) (sym t)
+    ∙ e
 
--- between words
-pub between_more : (bs : List ℕ) (i : ℕ) → i < length bs → separator (get_or bs i 0) ≡ true → scan between i (drop i bs) ≡ scan (gap (eqb (get_or bs i 0) 35)) (i + 1) (drop (i + 1) bs)
-between_more bs i h e =
-    at_drop_more (scan between i) bs i 0 h ∙ rw (e, scan) (ap (λ n. scan (gap (eqb (get_or bs i 0) 35)) n (drop (i + 1) bs)) (sym (add-one i)))
-
--- a word begins
-pub word_begins : (bs : List ℕ) (i : ℕ) → i < length bs → separator (get_or bs i 0) ≡ false → scan between i (drop i bs) ≡ scan (inside i (get_or bs i 0 ∷ [])) (i + 1) (drop (i + 1) bs)
-word_begins bs i h e =
-    at_drop_more (scan between i) bs i 0 h ∙ rw (e, scan) (ap (λ n. scan (inside i (get_or bs i 0 ∷ [])) n (drop (i + 1) bs)) (sym (add-one i)))
-
--- in a word
-pub inside_more : (k : ℕ) (w bs : List ℕ) (i : ℕ) → i < length bs → separator (get_or bs i 0) ≡ false → scan (inside k w) i (drop i bs) ≡ scan (inside k (w ++ get_or bs i 0 ∷ [])) (i + 1) (drop (i + 1) bs)
-inside_more k w bs i h e =
-    at_drop_more (scan (inside k w) i) bs i 0 h ∙ rw (e, scan) (ap (λ n. scan (inside k (w ++ get_or bs i 0 ∷ [])) n (drop (i + 1) bs)) (sym (add-one i)))
-
--- a word ends
-pub inside-separator : (k : ℕ) (w bs : List ℕ) (i : ℕ) → i < length bs → separator (get_or bs i 0) ≡ true → scan (inside k w) i (drop i bs) ≡ record { start = k; bytes = w } ∷ scan between i (drop i bs)
-inside-separator k w bs i h e =
-    at_drop_more (scan (inside k w) i) bs i 0 h ∙ rw (e, scan) (ap (λ n. record { start = k; bytes = w } ∷ scan (gap (eqb (get_or bs i 0) 35)) n (drop (i + 1) bs)) (sym (add-one i))) ∙ ap (λ ws. record { start = k; bytes = w } ∷ ws) (sym (between_more bs i h e))
+pub skip_separator : (bs : List ℕ) (i : ℕ) (was next : Bool) (ws : List Word) → i < length bs → was ≡ false → separator (get_or bs i 0) ≡ true → next ≡ eqb (get_or bs i 0) 35 → scan (gap was) i (drop i bs) ≡ ws → scan (gap next) (i + 1) (drop (i + 1) bs) ≡ ws
+skip_separator bs i was next ws h t s n e =
+    ap (λ b. scan (gap b) (i + 1) (drop (i + 1) bs)) n
+    ∙ sym (at_drop_more (scan between i) bs i 0 h ∙ rw (s, scan) (ap (λ k. scan (gap (eqb (get_or bs i 0) 35)) k (drop (i + 1) bs)) (sym (add-one i))))
+    ∙ ap (λ b. scan (gap b) i (drop i bs)) (sym t)
+    ∙ e
 
 -- the text ends
 pub gap-all : (t : Bool) (bs : List ℕ) (i : ℕ) → length bs ≤ i → scan (gap t) i (drop i bs) ≡ []
 gap-all true bs i h = at_drop_all (scan comment i) bs i h
 gap-all false bs i h = at_drop_all (scan between i) bs i h
 
-pub inside-all : (k : ℕ) (w bs : List ℕ) (i : ℕ) → length bs ≤ i → scan (inside k w) i (drop i bs) ≡ record { start = k; bytes = w } ∷ scan between i (drop i bs)
-inside-all k w bs i h =
-    at_drop_all (scan (inside k w) i) bs i h ∙ ap (λ ws. record { start = k; bytes = w } ∷ ws) (sym (gap-all false bs i h))
+-- how many bytes stand before the first separator
+abbrev pub solid : List ℕ → ℕ
+solid bs = prefix_len (λ b. not (separator b)) bs
 
--- one byte more of what stands from k to i
-pub part_more : (bs : List ℕ) (k i : ℕ) → k ≤ i → i < length bs → take (i + 1 - k) (drop k bs) ≡ take (i - k) (drop k bs) ++ get_or bs i 0 ∷ []
-part_more bs k i low high =
-    let one : i + 1 - k ≡ i - k + 1 = omega arith in
-    let back : k + (i - k) ≡ i = omega arith in
-    ap (λ n. take n (drop k bs)) one
-    ∙ take_more (drop k bs) (i - k) 0 (omega (arith, length-drop k bs))
-    ∙ ap (λ b. take (i - k) (drop k bs) ++ b ∷ []) (get_or-drop k bs (i - k) 0 ∙ ap (λ n. get_or bs n 0) back)
+-- the word of the bytes `w` and then `n` more, which began at `k`
+abbrev Cut : State → List ℕ → ℕ → ℕ → List ℕ → ℕ → Type 0
+Cut s w k i bs n = scan s i bs ≡ record { start = k; bytes = w ++ take n bs } ∷ scan between (i + n) (drop n bs)
 
--- a loop's step over what stands between words: `was` and `next` say whether it is a comment
-pub skip_comment : (bs : List ℕ) (i : ℕ) (was next : Bool) (ws : List Word) → i < length bs → was ≡ true → next ≡ not (eqb (get_or bs i 0) 10) → scan (gap was) i (drop i bs) ≡ ws → scan (gap next) (i + 1) (drop (i + 1) bs) ≡ ws
-skip_comment bs i was next ws h t n e =
-    ap (λ b. scan (gap b) (i + 1) (drop (i + 1) bs)) n ∙ sym (comment_more bs i h) ∙ ap (λ b. scan (gap b) i (drop i bs)) (sym t) ∙ e
-
-pub skip_separator : (bs : List ℕ) (i : ℕ) (was next : Bool) (ws : List Word) → i < length bs → was ≡ false → separator (get_or bs i 0) ≡ true → next ≡ eqb (get_or bs i 0) 35 → scan (gap was) i (drop i bs) ≡ ws → scan (gap next) (i + 1) (drop (i + 1) bs) ≡ ws
-skip_separator bs i was next ws h t s n e =
-    ap (λ b. scan (gap b) (i + 1) (drop (i + 1) bs)) n ∙ sym (between_more bs i h s) ∙ ap (λ b. scan (gap b) i (drop i bs)) (sym t) ∙ e
-
--- a loop's start and step over a word from k on
-pub word_one : (bs : List ℕ) (k : ℕ) → k < length bs → separator (get_or bs k 0) ≡ false → scan (inside k (take (k + 1 - k) (drop k bs))) (k + 1) (drop (k + 1) bs) ≡ scan between k (drop k bs)
-word_one bs k h s =
-    let one : k + 1 - k ≡ 1 = omega arith in
-    ap (λ w. scan (inside k w) (k + 1) (drop (k + 1) bs)) (ap (λ n. take n (drop k bs)) one ∙ ap (take 1) (drop_more bs k 0 h)) ∙ sym (word_begins bs k h s)
-
-pub word_more : (bs : List ℕ) (k i : ℕ) (ws : List Word) → k ≤ i → i < length bs → separator (get_or bs i 0) ≡ false → scan (inside k (take (i - k) (drop k bs))) i (drop i bs) ≡ ws → scan (inside k (take (i + 1 - k) (drop k bs))) (i + 1) (drop (i + 1) bs) ≡ ws
-word_more bs k i ws low h s e =
-    ap (λ w. scan (inside k w) (i + 1) (drop (i + 1) bs)) (part_more bs k i low h) ∙ sym (inside_more k _ bs i h s) ∙ e
-
--- the first word of a scan that is in a word is that word
-first_begins : {Y : Type 0} (f : ℕ → Y) (k : ℕ) (w : List ℕ) (i : ℕ) (bs : List ℕ) → option_map (λ v. f v.start) (slice_get (scan (inside k w) i bs) 0) ≡ Some (f k)
-first_begins f k w i [] = refl
-first_begins f k w i (b ∷ bs) = go (separator b) refl (first_begins f k (w ++ b ∷ []) (suc i) bs)
+-- the rest of a word, and what follows it
+word_on : (bs : List ℕ) (k : ℕ) (w : List ℕ) (i : ℕ) → Cut (inside k w) w k i bs (solid bs)
+word_on [] k w i = ap (λ v. record { start = k; bytes = v } ∷ []) (sym (append-nil w))
+word_on (b ∷ bs) k w i = go (separator b) refl (word_on bs k (w ++ b ∷ []) (suc i))
   where
-    go : (t : Bool) → separator b ≡ t → option_map (λ v. f v.start) (slice_get (scan (inside k (w ++ b ∷ [])) (suc i) bs) 0) ≡ Some (f k) → option_map (λ v. f v.start) (slice_get (scan (inside k w) i (b ∷ bs)) 0) ≡ Some (f k)
-    go true e h = rw (e, scan)
-    go false e h = rw (e, scan) h
+    go : (t : Bool) → separator b ≡ t → Cut (inside k (w ++ b ∷ [])) (w ++ b ∷ []) k (suc i) bs (solid bs) → Cut (inside k w) w k i (b ∷ bs) (solid (b ∷ bs))
+    go true e same =
+        let none : solid (b ∷ bs) ≡ 0 = rw e in
+        let here : i ≡ i + 0 = omega arith in
+        subst (Cut (inside k w) w k i (b ∷ bs)) (sym none) (rw (e, scan) (λ j. record { start = k; bytes = sym (append-nil w) j } ∷ scan (gap (eqb b 35)) (suc (here j)) bs))
+    go false e same =
+        let more : solid (b ∷ bs) ≡ suc (solid bs) = rw e (omega arith) in
+        let on : suc i + solid bs ≡ i + suc (solid bs) = omega arith in
+        subst (Cut (inside k w) w k i (b ∷ bs)) (sym more) (rw (e, scan) (same ∙ (λ j. record { start = k; bytes = append_assoc w (b ∷ []) (take (solid bs) bs) j } ∷ scan between (on j) (drop (solid bs) bs))))
 
--- where a word begins, the first word begins
-pub first_at : {Y : Type 0} (f : ℕ → Y) (bs : List ℕ) (i : ℕ) → i < length bs → separator (get_or bs i 0) ≡ false → option_map (λ v. f v.start) (slice_get (scan between i (drop i bs)) 0) ≡ Some (f i)
-first_at f bs i h s =
-    ap (λ ws. option_map (λ v. f v.start) (slice_get ws 0)) (word_begins bs i h s) ∙ first_begins f i (get_or bs i 0 ∷ []) (i + 1) (drop (i + 1) bs)
+-- a word from its first byte on, and what follows it
+word_cut : (b : ℕ) (bs : List ℕ) (i : ℕ) → separator b ≡ false → Cut between [] i i (b ∷ bs) (solid (b ∷ bs))
+word_cut b bs i e =
+    let more : solid (b ∷ bs) ≡ suc (solid bs) = rw e (omega arith) in
+    let on : suc i + solid bs ≡ i + suc (solid bs) = omega arith in
+    subst (Cut between [] i i (b ∷ bs)) (sym more) (rw (e, scan) (word_on bs i (b ∷ []) (suc i) ∙ (λ j. record { start = i; bytes = b ∷ take (solid bs) bs } ∷ scan between (on j) (drop (solid bs) bs))))
+
+-- where a word begins, it is the `n` bytes before the first separator of what is left
+pub word_first : (text left : List ℕ) (i n : ℕ) → i < length text → separator (get_or text i 0) ≡ false → left ≡ drop i text → n ≡ solid left → scan between i (drop i text) ≡ record { start = i; bytes = take n left } ∷ scan between (i + length (take n left)) (drop (i + length (take n left)) text)
+word_first text left i n h s e w =
+    let bs = drop i text in
+    let many : solid bs ≡ n = ap solid (sym e) ∙ sym w in
+    let long : solid bs ≡ length (take n left) = sym (length-prefix_len (λ b. not (separator b)) bs) ∙ (λ j. length (take (many j) (sym e j))) in
+    subst (λ l. Cut between [] i i l (solid l)) (sym (drop_more text i 0 h)) (word_cut (get_or text i 0) (drop (i + 1) text) i s)
+    ∙ ap (λ l. record { start = i; bytes = take (solid bs) bs } ∷ scan between (i + solid bs) l) (drop-drop (solid bs) i text)
+    ∙ (λ j. record { start = i; bytes = take (many j) (sym e j) } ∷ scan between (i + long j) (drop (i + long j) text))
+
+-- each word begins in the text
+abbrev pub Within : ℕ → List Word → Type 0
+Within n ws = AllByRecursion (λ w. w.start < n) ws
+
+abbrev Began : ℕ → State → Type 0
+Began n between = Unit {0}
+Began n comment = Unit {0}
+Began n (inside start bytes) = start < n
+
+began_gap : (n : ℕ) (t : Bool) → Began n (gap t)
+began_gap n true = tt
+began_gap n false = tt
+
+within_from : (n : ℕ) (s : State) (i : ℕ) (bs : List ℕ) → i + length bs ≤ n → Began n s → Within n (scan s i bs)
+within_from n between i [] h s = tt
+within_from n comment i [] h s = tt
+within_from n (inside start bytes) i [] h s = (s, tt)
+within_from n between i (b ∷ bs) h s = go (separator b) refl (λ u. within_from n u (suc i) bs (omega arith))
+  where
+    go : (t : Bool) → separator b ≡ t → ((u : State) → Began n u → Within n (scan u (suc i) bs)) → Within n (scan between i (b ∷ bs))
+    go true e on = rw (e, scan) (on (gap (eqb b 35)) (began_gap n (eqb b 35)))
+    go false e on = rw (e, scan) (on (inside i (b ∷ [])) (omega arith))
+within_from n comment i (b ∷ bs) h s = within_from n (gap (not (eqb b 10))) (suc i) bs (omega arith) (began_gap n (not (eqb b 10)))
+within_from n (inside start bytes) i (b ∷ bs) h s = go (separator b) refl (λ u. within_from n u (suc i) bs (omega arith))
+  where
+    go : (t : Bool) → separator b ≡ t → ((u : State) → Began n u → Within n (scan u (suc i) bs)) → Within n (scan (inside start bytes) i (b ∷ bs))
+    go true e on = rw (e, scan) (s, on (gap (eqb b 35)) (began_gap n (eqb b 35)))
+    go false e on = rw (e, scan) (on (inside start (bytes ++ b ∷ [])) s)
+
+pub within : (text : List ℕ) → Within (length text) (words_of text)
+within text = within_from (length text) between 0 text (omega arith) tt
+
+pub within_at : (n : ℕ) (ws : List Word) (i : ℕ) (w : Word) → Within n ws → slice_get ws i ≡ Some w → w.start < n
+within_at n [] i w h e = let z : ◌≡◌ {A = ℕ} 0 1 = cc in absurd (omega arith)
+within_at n (v ∷ ws) zero w h e = let same : v ≡ w = cc in subst (λ u. u.start < n) same h.0
+within_at n (v ∷ ws) (suc i) w h e = within_at n ws i w h.1 e

@@ -1,20 +1,33 @@
-use Rattle.std.proofs.Common.{false, drop, Some, sym, ap, ◌∙◌}
+use Rattle.std.proofs.Common.{◌≡◌, ℕ, ◌≤◌, List, length, Some, Option, sym, ap, ◌∙◌}
+use Rattle.std.specs.Iterator.{YieldsThen, YieldsFirstBy}
 use Rattle.std.specs.List.{slice_get}
-use Rattle.std.specs.Option.{option_map}
-use Rattle.text.specs.Words.{between, position_of, scan}
-use Rattle.text.proofs.Scans.{first_at, gap-all}
+use Rattle.std.specs.Option.{MatchOption, option_map}
+use Rattle.std.proofs.lemmas.Iterator.Consumers.{nth_from_yields_List, YieldsList-from_first}
+use Rattle.text.specs.declared.words.Word as item
+use Rattle.text.specs.Words.{Word, position_of, words_of}
+use Rattle.text.proofs.Scans.{within, within_at}
 use Rattle.text.proofs.position.Goals as goal
 
-pub returns-then-left-eq0 : goal.returns-then-left-eq0
-returns-then-left-eq0 c =
+abbrev word_of : item.Word → Word
+word_of w = record { start = w.start; bytes = w.bytes.now }
+
+found : (text : List ℕ) (i : ℕ) (s : List Word) (r : Option item.Word) (u : List Word) → s ≡ words_of text → ((xs : List item.Word) × YieldsThen (YieldsFirstBy word_of (λ left. left)) s xs r u × MatchOption r (length xs ≤ i) (λ _. length xs ≡ i)) → option_map word_of r ≡ slice_get (words_of text) i
+found text i s r u e ran = nth_from_yields_List r u i ran (YieldsList-from_first word_of (λ left. left) (words_of text) e)
+
+pub returns-in_err-word : goal.returns-in_err-word
+returns-in_err-word c =
     let text = c.args.text.now in
-    let at = c.loop-at.at in
-    let h = c.loop-at-test.true in
-    let first = ap (slice_get (scan between at (drop at text))) (sym c.if-left-eq0.true) ∙ c.loop-at.invariant.2 in
-    ap Some c.position_at.ensures ∙ sym (first_at (position_of text) text at h (c.loop-at.invariant.1 h)) ∙ ap (option_map (λ w. position_of text w.start)) first
+    let none = ap (option_map word_of) (sym c.in_err-word.was) ∙ found text _ _ _ _ c.of.ensures c.nth.ensures.ran in
+    c.from_residual.ensures ∙ ap (option_map (λ w. position_of text w.start)) none
+
+pub position_at-requires : goal.position_at-requires
+position_at-requires c =
+    let text = c.args.text.now in
+    let one = ap (option_map word_of) (sym c.in_ok-word.was) ∙ found text _ _ _ _ c.of.ensures c.nth.ensures.ran in
+    within_at _ _ _ _ (within text) (sym one)
 
 pub returns : goal.returns
 returns c =
     let text = c.args.text.now in
-    let none = ap (λ ws. slice_get ws c.loop-at.left) (sym (gap-all false text c.loop-at.at c.loop-at-test.false)) ∙ c.loop-at.invariant.2 in
-    ap (option_map (λ w. position_of text w.start)) none
+    let one = ap (option_map word_of) (sym c.in_ok-word.was) ∙ found text _ _ _ _ c.of.ensures c.nth.ensures.ran in
+    ap Some c.position_at.ensures ∙ ap (option_map (λ w. position_of text w.start)) one

@@ -1,16 +1,16 @@
-use Rattle.text.proofs.Places.{counted_none, counted_feed, counted_other, counted-all}
+use Rattle.std.proofs.Common.{◌≡◌, ◌+◌, ◌∙◌, sym, take, not, eqb, reverse, rules, tests}
+use Rattle.std.specs.List.{count_by, prefix_len}
+use Rattle.std.proofs.lemmas.Iterator.Adapters.{YieldsList-from_rev_slice}
+use Rattle.std.proofs.lemmas.Iterator.Consumers.{count_from_yields_List, YieldsList-at}
+use Rattle.std.proofs.lemmas.Iterator.Search.{YieldsList-from_take_while}
+use Rattle.std.proofs.lemmas.List.Folds.{length-prefix_len}
+use Rattle.text.proofs.Places.{feeds_counted, since_counted}
 use Rattle.text.proofs.position_at.Goals as goal
-use Rattle.text.proofs.position_at.Goals.{then-byte-eq10, else-byte-eq10}
-
-pub loop-byte-init : goal.loop-byte-init
-loop-byte-init c = counted_none _
-
-pub loop-byte-preserved : goal.loop-byte-preserved
-loop-byte-preserved c =
-    elim c.if-byte-eq10.branch [
-      | then-byte-eq10 w ↦ rw (w.line-is, w.column-is) (counted_feed _ _ _ _ c.loop-byte-test.true w.if-byte-eq10.true c.loop-byte.invariant)
-      | else-byte-eq10 w ↦ rw (w.line-is, w.column-is) (counted_other _ _ _ _ c.loop-byte-test.true w.if-byte-eq10.false c.loop-byte.invariant)
-    ]
 
 pub returns : goal.returns
-returns c = counted-all _ c.args.place _ _ _ c.loop-byte-test.false c.loop-byte.invariant
+returns c =
+    let before = take c.args.place c.args.text.now in
+    let feeds : c.count-feeds.result ≡ count_by (λ b. eqb b 10) before = search (rules, tests) in
+    let back = YieldsList-at c.take_while.ensures.source (YieldsList-from_rev_slice before (search rules)) in
+    let since : c.count-since.result ≡ prefix_len (λ b. not (eqb b 10)) (reverse before) = count_from_yields_List c.take_while.result c.count-since.result c.count-since.ensures.ran (YieldsList-from_take_while _ (λ b. not (eqb b 10)) back c.take_while.ensures.closure c.take_while.ensures.done (λ x b q k. search (rules, tests))) ∙ length-prefix_len _ (reverse before) in
+    (λ j. record { line = 1 + (feeds ∙ sym (feeds_counted before)) j; column = 1 + (since ∙ sym (since_counted before)) j })

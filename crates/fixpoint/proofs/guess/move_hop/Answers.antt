@@ -7,23 +7,23 @@ use Rattle.fixpoint.specs.Moving.{Moved}
 use Rattle.fixpoint.proofs.Moves.{no_made, no_grown, nothing_moved}
 use Rattle.fixpoint.proofs.guess.move_hop.Goals as goal
 
-pub returns-then-not-make : goal.returns-then-not-make
-returns-then-not-make c =
+pub returns-in_default : goal.returns-in_default
+returns-in_default c =
     let k = c.args.counts in
     let m = table_in k c.args.guess.now in
     let s = table_in k c.args.table.now in
-    let to = c.args.to in
-    let grown = after c.args.words c.args.way c.args.step (at s c.args.n) in
-    nothing_moved k to c.args.table.now _ (ap (λ a. moved_at (at m to) a grown (at s to)) (sym c.if-not-make.ensures) ∙ no_made (at m to) grown (at s to))
+    let to = c.args.hop.to.0 in
+    let grown = after c.args.words c.args.hop.way c.args.hop.step (at s c.args.hop.from.0) in
+    nothing_moved k to c.args.table.now _ (ap (λ a. moved_at (at m to) a grown (at s to)) (sym c.in_default.ensures.made) ∙ no_made (at m to) grown (at s to))
 
-pub returns-then-not-make-2 : goal.returns-then-not-make-2
-returns-then-not-make-2 c =
+pub returns-in_default-make : goal.returns-in_default-make
+returns-in_default-make c =
     let k = c.args.counts in
     let m = table_in k c.args.guess.now in
     let s = table_in k c.args.table.now in
-    let to = c.args.to in
-    let made = after c.args.words c.args.way c.args.step (at m c.args.n) in
-    nothing_moved k to c.args.table.now _ (ap (λ a. moved_at (at m to) made a (at s to)) (sym c.if-not-make-2.ensures) ∙ no_grown (at m to) made (at s to))
+    let to = c.args.hop.to.0 in
+    let made = after c.args.words c.args.hop.way c.args.hop.step (at m c.args.hop.from.0) in
+    nothing_moved k to c.args.table.now _ (ap (λ a. moved_at (at m to) made a (at s to)) (sym c.in_default-make.ensures.made) ∙ no_grown (at m to) made (at s to))
 
 pub move_place-requires : goal.move_place-requires
 move_place-requires c = record {
@@ -31,8 +31,8 @@ move_place-requires c = record {
   long = c.requires.long;
   place = c.requires.there;
   guess = c.requires.guess;
-  made = c.make.auto.out ∙ c.requires.made;
-  grown = c.make-2.auto.out ∙ c.requires.grown;
+  made = c.in-Some.ensures.long;
+  grown = c.in-Some-make.ensures.long;
 }
 
 pub returns : goal.returns
@@ -40,5 +40,5 @@ returns c =
     let k = c.args.counts in
     let m = table_in k c.args.guess.now in
     let s = table_in k c.args.table.now in
-    let to = c.args.to in
-    subst (λ a. Moved k to a c.args.table.now c.move_place.new.table c.move_place.result) (ap₂ (λ a b. moved_at (at m to) a b (at s to)) c.if-not-make.ensures c.if-not-make-2.ensures) c.move_place.ensures
+    let to = c.args.hop.to.0 in
+    subst (λ a. Moved k to a c.args.table.now c.move_place.new.table c.move_place.result) (ap₂ (λ a b. moved_at (at m to) a b (at s to)) c.in-Some.ensures.made c.in-Some-make.ensures.made) c.move_place.ensures
