@@ -1,5 +1,5 @@
 -- What one step does to lent memory.
-use Rattle.std.specs.Prelude.{◌≡◌, ℕ, ◌+◌, ◌<◌, ◌≤◌, Bool, true, false, List, length, drop, ℤ, pos, ◌+ℤ◌, ◌-ℤ◌, ◌*ℤ◌, Some, None, Option, slice_index_or}
+use Rattle.std.specs.Prelude.{◌≡◌, ℕ, ◌+◌, ◌<◌, ◌≤◌, Bool, true, List, length, drop, ℤ, pos, ◌+ℤ◌, ◌-ℤ◌, ◌*ℤ◌, Some, None, Option, slice_index_or}
 use Rattle.number.specs.Numbers.{in64}
 use Rattle.program.specs.declared.Step.{Step}
 use Rattle.program.specs.declared.Step.TheVariants.{Set, Add, Sub, Mul, Load, Store, Ask, Show, Go, Less, Stop}
@@ -10,11 +10,6 @@ use Rattle.machine.specs.declared.cursor.Cursor.{Cursor}
 use Rattle.machine.specs.declared.cursor.Outcome.{Outcome}
 use Rattle.machine.specs.declared.cursor.Outcome.TheVariants.{On, Stopped, Failed, Full}
 use Rattle.machine.specs.Layout.{state_of}
-
--- numbers that were changed, if the answer was yes
-abbrev pub changed : Bool → List ℤ → Option (List ℤ)
-changed true s = Some s
-changed false s = None
 
 -- the length of an array as the rows have it, and where the array begins
 abbrev pub words_at : List ℤ → ℕ → ℕ
@@ -30,9 +25,9 @@ to c t = record { place = t.0; taken = c.taken; count = c.count }
 abbrev pub onward : Cursor → Cursor
 onward c = record { place = c.place + 1; taken = c.taken; count = c.count }
 
-abbrev pub settled : Cursor → Bool → Outcome
-settled c true = On (onward c)
-settled c false = Failed
+abbrev pub settled : Cursor → Option (Unit {0}) → Outcome
+settled c (Some passed) = On (onward c)
+settled c None = Failed
 
 -- whether the test of a step passes; one that has none does
 abbrev pub passes : Prog → State → Step → Bool
