@@ -1,17 +1,14 @@
 // One step.
 
-ghost use Rattle.std.specs.Prelude.{◌≡◌, ◌<◌, ◌≤◌, true, T, length, slice_set};
+ghost use Rattle.std.specs.Prelude.{◌≡◌, ◌<◌, length, slice_set};
 ghost use Rattle.std.specs.Option.{option_map};
-ghost use Rattle.program.specs.Program.{Prog, counts_of};
-ghost use Rattle.program.specs.Rows.{Program, ok_i};
-ghost use Rattle.machine.specs.Layout.{state_of, Laid};
-ghost use Rattle.machine.specs.Acting.{passes, Acted, Moved};
+ghost use Rattle.machine.specs.Acting.{Ready, Acted, Moved};
 
 use crate::arrays::{load, store};
 use crate::cursor::{Cursor, Outcome};
 use crate::exchange::{ask, show};
 use crate::variables::{add, mul, sub, value};
-use program::{Step, Var};
+use program::{Program, Step, Var};
 
 // The variable becomes the number, if there is one.
 fn assign(vars: &mut [i64], x: Var, number: Option<i64>) -> Option<()>
@@ -24,7 +21,7 @@ fn assign(vars: &mut [i64], x: Var, number: Option<i64>) -> Option<()>
 
 // What a step does. A test that is sure isn't done.
 pub fn perform(
-    rows: &[i64],
+    program: &Program,
     starts: &[i64],
     vars: &mut [i64],
     memory: &mut [i64],
@@ -34,12 +31,11 @@ pub fn perform(
     sure: bool,
     step: Step,
 ) -> Outcome
-    requires taken { cursor.taken ≤ length asked.now }
-    requires count { cursor.count ≤ length shown.old }
-    requires ready { (p : Prog) × Program rows.now p × Laid p starts.now vars.old memory.old × (cursor.place < length p.code) × T (ok_i (counts_of p) step) × (sure ≡ true → passes p (state_of p.arrays cursor vars.old memory.old asked.now shown.old) step ≡ true) }
-    ensures acts { (p : Prog) → Program rows.now p → Acted p cursor vars.old memory.old asked.now shown.old step result vars.new memory.new shown.new }
-    ensures moves { (p : Prog) → Program rows.now p → Moved p cursor asked.now shown.old result shown.new }
+    requires { Ready program.now cursor starts.now vars.old memory.old asked.now shown.old sure step }
+    ensures acts { Acted program.now cursor vars.old memory.old asked.now shown.old step result vars.new memory.new shown.new }
+    ensures moves { Moved program.now cursor asked.now shown.old result shown.new }
 {
+    let rows = program.rows();
     match step {
         Step::Set(x, e) => {
             vars[x.0] = value(vars, e);

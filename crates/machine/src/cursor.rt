@@ -6,14 +6,14 @@ ghost use Rattle.machine.specs.Acting.{onward, to, settled};
 use program::Place;
 
 // The place, how many numbers were taken of those handed in, and how many were shown.
-#[derive(Clone, Copy, PartialEq, Eq, Debug)]
+#[derive(Clone, Copy)]
 pub struct Cursor {
     pub place: usize,
     pub taken: usize,
     pub count: usize,
 }
 
-#[derive(Clone, Copy, PartialEq, Eq, Debug)]
+#[derive(Clone, Copy)]
 pub enum Outcome {
     On(Cursor),
     Stopped,
