@@ -14,7 +14,7 @@ use Rattle.interpreter.specs.declared.Ran.{Ran}
 use Rattle.interpreter.specs.declared.Ran.TheVariants.{Stopped, Failed, More, BadTable as NoTable, Unread as NoProgramRun, OutFull as Filled, Small as TooSmall}
 use Rattle.interpreter.specs.Ending.{shown_by, answer_of, Overflows, needs}
 use Rattle.message.specs.declared.Error.{Error}
-use Rattle.message.specs.declared.Error.TheVariants.{Usage, File, Stdin, Stdout, TooLong, Steps, Text, ProgramText, TableText, NumbersText, NoProgram, Unread, BadTable, Small, OutFull, Memory}
+use Rattle.message.specs.declared.Error.TheVariants.{Unread, BadTable, Small, OutFull, Memory}
 
 abbrev pub number_lines : List ℤ → List ℕ
 number_lines [] = []
@@ -50,14 +50,4 @@ RunTextSays s l q n room w (Err (BadTable c)) = (p : Prog) × Program s p × (fa
 RunTextSays s l q n room w (Err (Small a b)) = (p : Prog) × Program s p × (a ≡ needs p) × (b ≡ w) × (w < needs p)
 RunTextSays s l q n room w (Err (OutFull k)) = (p : Prog) × (t : Table) × Program s p × (row_t p.vars t ≡ l) × Holds p t × (k ≡ room) × Overflows p q n room
 RunTextSays s l q n room w (Err Memory) = Unit {0}
-RunTextSays s l q n room w (Err (Usage u)) = ⊥
-RunTextSays s l q n room w (Err (File name e)) = ⊥
-RunTextSays s l q n room w (Err (Stdin e)) = ⊥
-RunTextSays s l q n room w (Err (Stdout e)) = ⊥
-RunTextSays s l q n room w (Err (TooLong k)) = ⊥
-RunTextSays s l q n room w (Err (Steps u)) = ⊥
-RunTextSays s l q n room w (Err (Text f)) = ⊥
-RunTextSays s l q n room w (Err (ProgramText f)) = ⊥
-RunTextSays s l q n room w (Err (TableText f)) = ⊥
-RunTextSays s l q n room w (Err (NumbersText f)) = ⊥
-RunTextSays s l q n room w (Err (NoProgram f at)) = ⊥
+RunTextSays s l q n room w (Err e) = ⊥

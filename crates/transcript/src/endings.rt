@@ -1,6 +1,6 @@
 // The lines of a run.
 
-ghost use Rattle.std.specs.Prelude.{◌≡◌, ◌++◌, IfOk, string_bytes, OnOk};
+ghost use Rattle.std.specs.Prelude.{◌≡◌, ◌++◌, string_bytes, OnOk};
 ghost use Rattle.transcript.specs.Transcripts.{number_lines, end_line, Written};
 
 use interpreter::Ran;
@@ -11,8 +11,7 @@ use std::alloc::{AllocError, Global};
 fn write_numbers(out: &mut String, numbers: &[i64]) -> Result<(), AllocError>
     ensures { OnOk result (string_bytes out.new ≡ string_bytes out.old ++ number_lines numbers.now) }
 {
-    for k in 0..numbers.len() {
-        let z = numbers[k];
+    for z in numbers {
         write!(out, "{z}\n")?;
     }
     Ok(())
@@ -30,8 +29,9 @@ fn write_end(out: &mut String, ran: Ran) -> Result<(), AllocError>
     }
 }
 
-fn written(heap: Global, shown: &[i64], ran: Ran) -> Result<String, AllocError>
-    ensures { IfOk result (λ out. string_bytes out ≡ number_lines shown.now ++ end_line ran) }
+// All lines of a run.
+pub(crate) fn lines(heap: Global, shown: &[i64], ran: Ran) -> Result<String, Error>
+    ensures { Written (number_lines shown.now ++ end_line ran) result }
 {
     // a number has at most 20 digits and a minus or a line feed each, and the last line fewer than 96 bytes
     let most = shown.len().saturating_mul(21).saturating_add(96);
@@ -39,14 +39,4 @@ fn written(heap: Global, shown: &[i64], ran: Ran) -> Result<String, AllocError>
     write_numbers(&mut out, shown)?;
     write_end(&mut out, ran)?;
     Ok(out)
-}
-
-// All lines of a run.
-pub(crate) fn lines(heap: Global, shown: &[i64], ran: Ran) -> Result<String, Error>
-    ensures { Written (number_lines shown.now ++ end_line ran) result }
-{
-    match written(heap, shown, ran) {
-        Ok(out) => Ok(out),
-        Err(_) => Err(Error::Memory),
-    }
 }

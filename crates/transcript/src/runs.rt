@@ -18,10 +18,7 @@ use std::alloc::Global;
 fn wanted(rows: &[i64]) -> usize
     ensures { (p : Prog) → Program rows.now p → result ≡ needs p }
 {
-    match program::read(rows) {
-        Ok(counts) => interpreter::wants(counts),
-        Err(_) => 0,
-    }
+    program::read(rows).map_or(0, |program| interpreter::wants(program.counts()))
 }
 
 // Why there is no run.
@@ -31,7 +28,7 @@ fn refused(heap: Global, rows: &[i64], table: &[i64]) -> Error
 {
     match report::licence_text(heap, rows, table) {
         Err(error) => error,
-        Ok(_) => unreachable(),
+        Ok(_) => unreachable!(),
     }
 }
 
@@ -52,12 +49,13 @@ pub fn run_text(
     let there = work.len();
     let ran = interpreter::run(rows, table, asked, steps, shown, work);
     match ran {
-        Ran::Stopped(k, _) => lines(heap, &shown[0..k], ran),
-        Ran::Failed(_, k, _) => lines(heap, &shown[0..k], ran),
-        Ran::More(k, _) => lines(heap, &shown[0..k], ran),
+        Ran::Stopped(k, _) | Ran::Failed(_, k, _) | Ran::More(k, _) => lines(
+            heap,
+            &shown[..k],
+            ran,
+        ),
         Ran::OutFull => Err(Error::OutFull(room)),
         Ran::Small => Err(Error::Small(wanted(rows), there)),
-        Ran::Unread => Err(refused(heap, rows, table)),
-        Ran::BadTable => Err(refused(heap, rows, table)),
+        Ran::Unread | Ran::BadTable => Err(refused(heap, rows, table)),
     }
 }
