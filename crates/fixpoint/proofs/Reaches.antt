@@ -14,13 +14,6 @@ use Rattle.fixpoint.proofs.Places.{place_at}
 abbrev row_in : Counts → List ℤ → ℕ → List ℤ
 row_in c l n = take (width c.vars) (drop (n * width c.vars) l)
 
--- one more variable
-pub box_more : (k : ℕ) (b m s : Box) → k < length b → k < length m → k < length s → reached_box (drop k b) (drop k m) (drop k s) ≡ (reached1 (get_or b k any) (get_or m k any) (get_or s k any) && reached_box (drop (k + 1) b) (drop (k + 1) m) (drop (k + 1) s))
-box_more k b m s l lm ls = rw (drop_more b k any l, drop_more m k any lm, drop_more s k any ls) refl
-
-pub box_done : (k : ℕ) (b m s : Box) → length b ≤ k → length m ≤ k → length s ≤ k → reached_box (drop k b) (drop k m) (drop k s) ≡ true
-box_done k b m s l lm ls = rw (drop_all k b l, drop_all k m lm, drop_all k s ls) refl
-
 -- one more place
 pub place_more : (n : ℕ) (t m s : Table) → n < length t → n < length m → n < length s → reached (drop n t) (drop n m) (drop n s) ≡ (reached_at (at t n) (at m n) (at s n) && reached (drop (n + 1) t) (drop (n + 1) m) (drop (n + 1) s))
 place_more n t m s l lm ls = rw (drop_more t n never l, drop_more m n never lm, drop_more s n never ls) refl

@@ -20,15 +20,15 @@ fn join_range(numbers: &mut [i64], x: Var, q: Range) -> bool
     !q.inside(r)
 }
 
+#[tactic(auto, using(crate::proofs::Boxes::joins))]
 fn join_box(numbers: &mut [i64], made: &[i64]) -> bool
     requires { length numbers.old ≡ length made.now }
     ensures joined { box_of numbers.new ≡ join_box (box_of numbers.old) (box_of made.now) }
     ensures changed { result ≡ not (covers_box (box_of made.now) (box_of numbers.old)) }
 {
     let mut changed = false;
-    for k in 0..made.len() / 2 {
-        let x = Var(k);
-        changed = changed | join_range(numbers, x, interval::range_at(made, x));
+    for (k, q) in interval::ranges(made).enumerate() {
+        changed |= join_range(numbers, Var(k), q);
     }
     changed
 }

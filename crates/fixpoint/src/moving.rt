@@ -15,25 +15,13 @@ use program::{Counts, Var};
 
 // A range moved out to what a hop makes of its box, `grown`, but no further than the guess, and only at an end where what the
 // hop makes of the guess, `made`, is as far out as the guess.
-fn lower_moved(guess: Range, made: Range, wide: Range, r: Range) -> i64
-    ensures { result ≡ (if le_z made.lo guess.lo then wide.lo else r.lo) }
-{
-    if made.lo <= guess.lo { wide.lo } else { r.lo }
-}
-
-fn upper_moved(guess: Range, made: Range, wide: Range, r: Range) -> i64
-    ensures { result ≡ (if le_z guess.hi made.hi then wide.hi else r.hi) }
-{
-    if guess.hi <= made.hi { wide.hi } else { r.hi }
-}
-
 fn moved_range(guess: Range, made: Range, grown: Range, r: Range) -> Range
     ensures { result ≡ moved1 guess made grown r }
 {
     let wide = r.join(grown.cut(guess));
     Range {
-        lo: lower_moved(guess, made, wide, r),
-        hi: upper_moved(guess, made, wide, r),
+        lo: if made.lo <= guess.lo { wide.lo } else { r.lo },
+        hi: if guess.hi <= made.hi { wide.hi } else { r.hi },
     }
 }
 
@@ -48,6 +36,7 @@ fn move_range(numbers: &mut [i64], x: Var, guess: Range, made: Range, grown: Ran
     !q.inside(r)
 }
 
+#[tactic(auto, using(crate::proofs::Boxes::moves))]
 fn move_box(numbers: &mut [i64], guess: &[i64], made: &[i64], grown: &[i64]) -> bool
     requires guess { length guess.now ≡ length numbers.old }
     requires made { length made.now ≡ length numbers.old }
@@ -56,12 +45,9 @@ fn move_box(numbers: &mut [i64], guess: &[i64], made: &[i64], grown: &[i64]) -> 
     ensures wider { result ≡ wider_box (moved_box (box_of guess.now) (box_of made.now) (box_of grown.now) (box_of numbers.old)) (box_of numbers.old) }
 {
     let mut moved = false;
-    for k in 0..guess.len() / 2 {
-        let x = Var(k);
-        let g = interval::range_at(guess, x);
-        let m = interval::range_at(made, x);
-        let s = interval::range_at(grown, x);
-        moved = moved | move_range(numbers, x, g, m, s);
+    let sides = interval::ranges(made).zip(interval::ranges(grown));
+    for (k, (g, (m, s))) in interval::ranges(guess).zip(sides).enumerate() {
+        moved |= move_range(numbers, Var(k), g, m, s);
     }
     moved
 }

@@ -10,34 +10,22 @@ ghost use Rattle.fixpoint.specs.Joining.{table_in};
 use interval::Range;
 use program::{Counts, Var};
 
-fn lower_reached(b: Range, guess: Range, moved: Range) -> bool
-    ensures { result ≡ (le_z moved.lo guess.lo || less_z moved.lo b.lo) }
-{
-    moved.lo <= guess.lo || moved.lo < b.lo
-}
-
-fn upper_reached(b: Range, guess: Range, moved: Range) -> bool
-    ensures { result ≡ (le_z guess.hi moved.hi || less_z b.hi moved.hi) }
-{
-    guess.hi <= moved.hi || b.hi < moved.hi
-}
-
 fn reached_range(b: Range, guess: Range, moved: Range) -> bool
     ensures { result ≡ reached1 b guess moved }
 {
-    b.inside(guess) && (lower_reached(b, guess, moved) && upper_reached(b, guess, moved))
+    b.inside(guess)
+        && (moved.lo <= guess.lo || moved.lo < b.lo)
+        && (guess.hi <= moved.hi || b.hi < moved.hi)
 }
 
+#[tactic(auto, using(interval::proofs::Pairs::pairs))]
 fn reached_box(b: &[i64], guess: &[i64], moved: &[i64]) -> bool
     requires guess { length guess.now ≡ length b.now }
     requires moved { length moved.now ≡ length b.now }
     ensures { result ≡ reached_box (box_of b.now) (box_of guess.now) (box_of moved.now) }
 {
-    for k in 0..b.len() / 2 {
-        let x = Var(k);
-        let r = interval::range_at(b, x);
-        let g = interval::range_at(guess, x);
-        let m = interval::range_at(moved, x);
+    let sides = interval::ranges(guess).zip(interval::ranges(moved));
+    for (r, (g, m)) in interval::ranges(b).zip(sides) {
         if !reached_range(r, g, m) {
             return false;
         }
