@@ -63,7 +63,5 @@ pub fn join_place(table: &mut [i64], counts: Counts, n: usize, made: &[i64]) -> 
     requires whole { length made.now ≡ 2 * counts.vars }
     ensures { Joined counts n (within (box_of made.now)) table.old table.new result }
 {
-    let width = 1 + 2 * counts.vars;
-    let start = n * width;
-    join_row(&mut table[start..start + width], made)
+    join_row(&mut table[table::row_bounds(counts.vars, n)], made)
 }

@@ -68,29 +68,7 @@ fn move_row(row: &mut [i64], guess: &[i64], made: &[i64], grown: &[i64]) -> bool
     move_box(&mut row[1..], &guess[1..], made, grown)
 }
 
-// Moves the ends of a place; `guess` is the guess's row of that place.
-fn move_at(
-    table: &mut [i64],
-    counts: Counts,
-    n: usize,
-    guess: &[i64],
-    made: &[i64],
-    grown: &[i64],
-) -> bool
-    requires few { counts.vars ≤ 64 }
-    requires long { length table.old ≡ wants counts }
-    requires place { n ≤ counts.steps }
-    requires there { n * width counts.vars + width counts.vars ≤ length table.old }
-    requires guess { length guess.now ≡ width counts.vars }
-    requires made { length made.now ≡ 2 * counts.vars }
-    requires grown { length grown.now ≡ 2 * counts.vars }
-    ensures { Moved counts n (moved_at (place_of guess.now) (within (box_of made.now)) (within (box_of grown.now)) (at (table_in counts table.old) n)) table.old table.new result }
-{
-    let width = 1 + 2 * counts.vars;
-    let start = n * width;
-    move_row(&mut table[start..start + width], guess, made, grown)
-}
-
+// Moves the ends of a place.
 pub(crate) fn move_place(
     table: &mut [i64],
     counts: Counts,
@@ -107,6 +85,6 @@ pub(crate) fn move_place(
     requires grown { length grown.now ≡ 2 * counts.vars }
     ensures { Moved counts n (moved_at (at (table_in counts guess.now) n) (within (box_of made.now)) (within (box_of grown.now)) (at (table_in counts table.old) n)) table.old table.new result }
 {
-    let row = table::row_of(guess, counts.vars, n);
-    move_at(table, counts, n, row, made, grown)
+    let goal = table::row_of(guess, counts.vars, n);
+    move_row(&mut table[table::row_bounds(counts.vars, n)], goal, made, grown)
 }
