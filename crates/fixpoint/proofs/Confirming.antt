@@ -10,7 +10,8 @@ use Rattle.interval.specs.Ranges.{Box, At, never, within, some_left, inside1, In
 use Rattle.interval.specs.Laws.{Proper, ProperAt}
 use Rattle.interval.proofs.Order.{order}
 use Rattle.table.specs.Tables.{Table, at, words_of}
-use Rattle.fixpoint.specs.Hops.{lands, after, carries}
+use Rattle.table.specs.Hops.{lands}
+use Rattle.fixpoint.specs.Hops.{after, carries}
 use Rattle.fixpoint.specs.Least.{ProperT}
 use Rattle.fixpoint.specs.Growth.{Grows1, Grows, GrowsAt}
 use Rattle.fixpoint.specs.Confirming.{moved1, moved_box, moved_at, Confirming, confirm_hop, confirm_sweep, sweeps_of, Follows}

@@ -1,23 +1,24 @@
 -- What the loop over the steps of a round goes by.
-use Rattle.std.proofs.Common.{◌≡◌, ℕ, ◌+◌, ◌-◌, ◌*◌, ◌<◌, ◌≤◌, Bool, true, false, ◌||◌, List, length, get_or, take, drop, set, ℤ, pos, sym, refl, ap, ◌∙◌, subst, ap₂}
-use mathlib.Core.Bool.{or_assoc}
+use Rattle.std.proofs.Common.{◌≡◌, ℕ, ◌+◌, ◌-◌, ◌*◌, ◌<◌, ◌≤◌, Bool, true, false, ◌||◌, List, [], ◌∷◌, length, get_or, take, drop, set, ℤ, pos, sym, refl, ap, ◌∙◌, subst, ap₂}
 use Rattle.std.proofs.lemmas.List.{set-get_or, take_rest}
 use Rattle.program.specs.declared.Step.{Step}
 use Rattle.program.specs.declared.Counts.{Counts}
-use Rattle.program.specs.Program.{Prog}
+use Rattle.program.specs.Program.{Prog, counts_of}
 use Rattle.program.specs.Rows.{Program}
 use Rattle.interval.specs.declared.Way.{Way}
 use Rattle.interval.specs.declared.Way.TheVariants.{Jump, Next}
 use Rattle.interval.specs.Ranges.{At, never, makes}
 use Rattle.interval.specs.Boxes.{box_of}
-use Rattle.table.specs.Tables.{Table, at, target}
+use Rattle.table.specs.Tables.{Table, at, words_of}
 use Rattle.table.specs.Rows.{width, wants, is_number, place_of}
 use Rattle.table.proofs.Loops.{place_known, place_never}
-use Rattle.fixpoint.specs.Hops.{after}
+use Rattle.fixpoint.specs.Hops.{after, sweep_from, through}
+use Rattle.table.specs.declared.Hop.{Hop}
+use Rattle.table.specs.Hops.{hops_from, IsHop}
 use Rattle.fixpoint.specs.Least.{Least, Sound}
-use Rattle.fixpoint.specs.Rounds.{Round, join_into, round, room}
+use Rattle.fixpoint.specs.Rounds.{Round, join_into, round_hop, round, room}
 use Rattle.fixpoint.specs.Ways.{Leads, rounded}
-use Rattle.fixpoint.specs.Joining.{table_in, Joined, Stepped, hop_with, RoundSays}
+use Rattle.fixpoint.specs.Joining.{table_in, Joined, RoundSays}
 use Rattle.fixpoint.proofs.Joins.{join_same}
 use Rattle.fixpoint.proofs.Sweeps.{round_sound, round_same, round_last}
 use Rattle.fixpoint.proofs.Room.{round_lowers}
@@ -47,14 +48,19 @@ made_joined c n l l' y made made' e j = subst (λ a. Joined c n a l l' y) e j
 joined_is : (c : Counts) (n : ℕ) (made : At) (l l' : List ℤ) (y : Bool) → Joined c n made l l' y → (b : Bool) → record { table = table_in c l'; changed = b || y } ≡ join_into n made (record { table = table_in c l; changed = b })
 joined_is c n made l l' y j b = ap₂ (λ t y. record { table = t; changed = b || y }) j.table j.changed
 
-pub stepped : (c : Counts) (words n : ℕ) (i : Step) (l l' l'' : List ℤ) (y z : Bool) → Joined c (target i) (after words Jump i (at (table_in c l) n)) l l' y → Joined c (n + 1) (after words Next i (at (table_in c l') n)) l' l'' z → Stepped c words n i l l'' (y || z)
-stepped c words n i l l' l'' y z j k = record {
-  round = λ b.
-      ap (λ x. record { table = table_in c l''; changed = x }) (sym (or_assoc b y z))
-      ∙ joined_is c (n + 1) (after words Next i (at (table_in c l') n)) l' l'' z k (b || y)
-      ∙ ap (hop_with words n i Next) (joined_is c (target i) (after words Jump i (at (table_in c l) n)) l l' y j b);
-  writes = λ e. k.writes (j.writes e);
-}
+-- what a hop of a program has joined is what the round makes of it
+pub hop_joined : (p : Prog) (h : Hop) (words : ℕ) (c : Counts) (l l' : List ℤ) (y : Bool) → IsHop p h → words ≡ words_of p h.step → c ≡ counts_of p → Joined c h.to.0 (after words h.way h.step (at (table_in c l) h.from.0)) l l' y → (b : Bool) → record { table = table_in (counts_of p) l'; changed = b || y } ≡ round_hop p h.from.0 h.step h.way (record { table = table_in (counts_of p) l; changed = b })
+hop_joined p h words c l l' y hop w e j b =
+    let t = table_in (counts_of p) l in
+    ap (λ c. record { table = table_in c l'; changed = b || y }) (sym e)
+    ∙ joined_is c h.to.0 (after words h.way h.step (at (table_in c l) h.from.0)) l l' y j b
+    ∙ ap (λ c. join_into h.to.0 (after words h.way h.step (at (table_in c l) h.from.0)) (record { table = table_in c l; changed = b })) e
+    ∙ ap₂ (λ n w. join_into n (after w h.way h.step (at t h.from.0)) (record { table = t; changed = b })) hop.lands w
+
+-- the hops that are left are those of the steps that are
+pub through_sweep : {A : Type 0} (f : ℕ → Step → Way → A → A) (n : ℕ) (is : List Step) (a : A) → through f (hops_from n is) a ≡ sweep_from f n is a
+through_sweep f n [] a = refl
+through_sweep f n (i ∷ is) a = through_sweep f (n + 1) is (f n i Next (f n i Jump a))
 
 -- what follows of a round from what it is
 pub round_says : (s : List ℤ) (p : Prog) (t t' : Table) (y : Bool) → Program s p → record { table = t'; changed = y } ≡ round p t → RoundSays p t t' y

@@ -7,7 +7,8 @@ use Rattle.interval.specs.declared.Way.{Way}
 use Rattle.interval.specs.declared.Way.TheVariants.{Jump, Next}
 use Rattle.interval.specs.Ranges.{At, never, within, AtLeast}
 use Rattle.table.specs.Tables.{Table, at, words_of, Holds}
-use Rattle.fixpoint.specs.Hops.{lands, after, carries, sweep_from, sweep}
+use Rattle.table.specs.Hops.{lands}
+use Rattle.fixpoint.specs.Hops.{after, carries, sweep_from, sweep}
 
 -- what holds of each place, and of places that are not there
 pub at_all : (P : At → Type 0) (t : Table) → P never → AllByRecursion P t → (n : ℕ) → P (at t n)

@@ -1,23 +1,23 @@
 -- What the loop over the steps of a confirming sweep goes by.
 use Rattle.std.proofs.Common.{◌≡◌, ℕ, zero, suc, ◌+◌, Bool, true, false, not, ◌||◌, T, List, [], ◌∷◌, set, ℤ, sym, refl, ap, ◌∙◌, ap₂, arith}
-use mathlib.Core.Bool.{or_assoc}
 use Rattle.std.proofs.lemmas.List.{set-get_or}
 use Rattle.std.proofs.lemmas.Bool.{cond_both}
-use Rattle.program.specs.declared.Step.{Step}
 use Rattle.program.specs.declared.Counts.{Counts}
-use Rattle.program.specs.Program.{Prog}
+use Rattle.program.specs.Program.{Prog, counts_of}
 use Rattle.program.specs.Rows.{Program}
 use Rattle.program.proofs.Results.{T_true, true-T}
 use Rattle.interval.specs.declared.Range.{Range}
-use Rattle.interval.specs.declared.Way.TheVariants.{Jump, Next}
 use Rattle.interval.specs.Ranges.{Box, At, never, within, inside1}
 use Rattle.interval.proofs.Order.{order}
-use Rattle.table.specs.Tables.{Table, at, target}
+use Rattle.table.specs.Tables.{Table, at, words_of}
+use Rattle.table.specs.declared.Hop.{Hop}
+use Rattle.table.specs.Hops.{IsHop}
+use Rattle.fixpoint.specs.Hops.{after}
 use Rattle.fixpoint.specs.declared.guess.Confirmed.{Confirmed}
-use Rattle.fixpoint.specs.Confirming.{moved_at, wider_box, wider_at, confirm_at, confirm_sweep, sweeps_of, reached, Confirms}
+use Rattle.fixpoint.specs.Confirming.{moved_at, wider_box, wider_at, confirm_at, confirm_hop, confirm_sweep, sweeps_of, reached, Confirms}
 use Rattle.fixpoint.specs.Ways.{Leads, confirmed}
 use Rattle.fixpoint.specs.Joining.{table_in}
-use Rattle.fixpoint.specs.Moving.{Moved, moved_by, move_with, StepMoved, ConfirmSays}
+use Rattle.fixpoint.specs.Moving.{Moved, moved_by, ConfirmSays}
 use Rattle.fixpoint.proofs.Ways.{guess_sound, guess_no_more, way_spent}
 
 -- where a hop makes nothing, of the guess or of the table, nothing moves
@@ -57,11 +57,13 @@ nothing_moved c n l a e = record {
 moved_is : (c : Counts) (n : ℕ) (a : At) (l l' : List ℤ) (y : Bool) → Moved c n a l l' y → (b : Bool) → record { table = table_in c l'; moved = b || y } ≡ confirm_at n a (record { table = table_in c l; moved = b })
 moved_is c n a l l' y j b = ap₂ (λ t y. record { table = t; moved = b || y }) j.table j.moved
 
-pub step_moved : (c : Counts) (m : Table) (words n : ℕ) (i : Step) (l l' l'' : List ℤ) (y z : Bool) → Moved c (target i) (moved_by words m n (target i) i Jump (table_in c l)) l l' y → Moved c (n + 1) (moved_by words m n (n + 1) i Next (table_in c l')) l' l'' z → StepMoved c m words n i l l'' (y || z)
-step_moved c m words n i l l' l'' y z j k b =
-    ap (λ x. record { table = table_in c l''; moved = x }) (sym (or_assoc b y z))
-    ∙ moved_is c (n + 1) (moved_by words m n (n + 1) i Next (table_in c l')) l' l'' z k (b || y)
-    ∙ ap (move_with words m n i Next) (moved_is c (target i) (moved_by words m n (target i) i Jump (table_in c l)) l l' y j b)
+pub hop_moved : (p : Prog) (m : Table) (h : Hop) (words : ℕ) (c : Counts) (l l' : List ℤ) (y : Bool) → IsHop p h → words ≡ words_of p h.step → c ≡ counts_of p → Moved c h.to.0 (moved_by words m h (table_in c l)) l l' y → (b : Bool) → record { table = table_in (counts_of p) l'; moved = b || y } ≡ confirm_hop p m h.from.0 h.step h.way (record { table = table_in (counts_of p) l; moved = b })
+hop_moved p m h words c l l' y hop w e j b =
+    let s = table_in (counts_of p) l in
+    ap (λ c. record { table = table_in c l'; moved = b || y }) (sym e)
+    ∙ moved_is c h.to.0 (moved_by words m h (table_in c l)) l l' y j b
+    ∙ ap (λ c. confirm_at h.to.0 (moved_by words m h (table_in c l)) (record { table = table_in c l; moved = b })) e
+    ∙ ap₂ (λ n w. confirm_at n (moved_at (at m n) (after w h.way h.step (at m h.from.0)) (after w h.way h.step (at s h.from.0)) (at s n)) (record { table = s; moved = b })) hop.lands w
 
 -- one more sweep, at the end
 sweeps_suc : (k : ℕ) (p : Prog) (m s : Table) → sweeps_of (suc k) p m s ≡ (confirm_sweep p m (sweeps_of k p m s)).table

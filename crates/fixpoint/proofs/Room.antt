@@ -17,7 +17,8 @@ use Rattle.interval.proofs.Order.{order}
 use Rattle.table.specs.Tables.{Table, at}
 use Rattle.table.proofs.Steps.{target_there}
 use Rattle.table.proofs.Nothing.{nth-ok_i}
-use Rattle.fixpoint.specs.Hops.{lands, carries}
+use Rattle.table.specs.Hops.{lands}
+use Rattle.fixpoint.specs.Hops.{carries}
 use Rattle.fixpoint.specs.Least.{Sound}
 use Rattle.fixpoint.specs.Rounds.{join_box, join_at, covers_box, covers, Round, round_hop, round, room_range, room_box, room_at, room_table, room}
 use Rattle.fixpoint.specs.Says.{RoundLowers, RoundNoMore}

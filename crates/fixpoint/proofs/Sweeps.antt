@@ -18,7 +18,8 @@ use Rattle.interval.proofs.Keeps.{makes_proper, makes_bits, makes-length}
 use Rattle.table.specs.Tables.{Table, at, zeros, words_of, Holds}
 use Rattle.table.proofs.Looks.{length-zeros}
 use Rattle.table.proofs.Nothing.{nth-ok_i}
-use Rattle.fixpoint.specs.Hops.{lands, after, carries, sweep_from}
+use Rattle.table.specs.Hops.{lands}
+use Rattle.fixpoint.specs.Hops.{after, carries, sweep_from}
 use Rattle.fixpoint.specs.Least.{Sound}
 use Rattle.fixpoint.specs.Rounds.{join_at, covers, start, Round, join_into, round_hop, round, rounds}
 use Rattle.fixpoint.specs.Says.{CoveredStays, StartSound, HopSound, RoundSound, RoundSame, RoundLast}

@@ -9,7 +9,8 @@ use Rattle.interval.specs.declared.Way.{Way}
 use Rattle.interval.specs.Ranges.{Box, At, never, within, inside1, AtLeast}
 use Rattle.interval.specs.Laws.{LongAt}
 use Rattle.table.specs.Tables.{Table, at, Holds}
-use Rattle.fixpoint.specs.Hops.{lands, carries, sweep}
+use Rattle.table.specs.Hops.{lands}
+use Rattle.fixpoint.specs.Hops.{carries, sweep}
 use Rattle.fixpoint.specs.Least.{Below, ProperT}
 use Rattle.fixpoint.specs.Growth.{GrowsT}
 

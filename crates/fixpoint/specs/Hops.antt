@@ -5,12 +5,8 @@ use Rattle.program.specs.Program.{Prog}
 use Rattle.interval.specs.declared.Way.{Way}
 use Rattle.interval.specs.declared.Way.TheVariants.{Jump, Next}
 use Rattle.interval.specs.Ranges.{At, never, within, makes}
-use Rattle.table.specs.Tables.{Table, at, words_of, target}
-
--- the place to which a hop leads
-abbrev pub lands : ℕ → Step → Way → ℕ
-lands n i Jump = target i
-lands n i Next = n + 1
+use Rattle.table.specs.declared.Hop.{Hop}
+use Rattle.table.specs.Tables.{Table, at, words_of}
 
 -- what a step makes of what is known at its place
 abbrev pub after : ℕ → Way → Step → At → At
@@ -28,3 +24,8 @@ sweep_from f n (i ∷ is) a = sweep_from f (n + 1) is (f n i Next (f n i Jump a)
 
 abbrev pub sweep : {A : Type 0} → (ℕ → Step → Way → A → A) → Prog → A → A
 sweep f p a = sweep_from f 0 p.code a
+
+-- these hops, each done to what the last one left
+abbrev pub through : {A : Type 0} → (ℕ → Step → Way → A → A) → List Hop → A → A
+through f [] a = a
+through f (h ∷ hs) a = through f hs (f h.from.0 h.step h.way a)

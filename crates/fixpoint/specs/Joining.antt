@@ -9,7 +9,8 @@ use Rattle.interval.specs.declared.Way.TheVariants.{Jump, Next}
 use Rattle.interval.specs.Ranges.{At}
 use Rattle.table.specs.Tables.{Table, at}
 use Rattle.table.specs.Rows.{row_t, table_of}
-use Rattle.fixpoint.specs.Hops.{lands, after}
+use Rattle.table.specs.Hops.{lands}
+use Rattle.fixpoint.specs.Hops.{after}
 use Rattle.fixpoint.specs.Least.{Least, Sound}
 use Rattle.fixpoint.specs.Rounds.{join_at, covers, Round, join_into, round, room}
 use Rattle.fixpoint.specs.Ways.{Leads}
@@ -29,15 +30,6 @@ pub record Joined (c : Counts) (n : ℕ) (made : At) (l l' : List ℤ) (y : Bool
   pub changed : y ≡ not (covers made (at (table_in c l) n))
   pub writes : Writes c l l'
 
--- a hop of a step of an array with so many words
-abbrev pub hop_with : ℕ → ℕ → Step → Way → Round → Round
-hop_with words n i w r = join_into (lands n i w) (after words w i (at r.table n)) r
-
--- Both hops of a step have been made. b says whether anything had changed before.
-pub record Stepped (c : Counts) (words n : ℕ) (i : Step) (l l' : List ℤ) (y : Bool) : Type 0 where
-  pub round : (b : Bool) → record { table = table_in c l'; changed = b || y } ≡ hop_with words n i Next (hop_with words n i Jump (record { table = table_in c l; changed = b }))
-  pub writes : Writes c l l'
-
 -- A round over a table in lent numbers: these are the table before it and after it, and y says whether anything changed.
 pub record RoundSays (p : Prog) (t t' : Table) (y : Bool) : Type 0 where
   pub table : t' ≡ (round p t).table
@@ -47,7 +39,7 @@ pub record RoundSays (p : Prog) (t t' : Table) (y : Bool) : Type 0 where
   pub last : Sound p t → y ≡ false → Least p t'
   pub way : (n : ℕ) → Leads p n t → Leads p (n + 1) t'
 
-pub record RoundPost (s : List ℤ) (c : Counts) (l l' : List ℤ) (y : Bool) : Type 0 where
-  pub says : (p : Prog) → Program s p → c ≡ counts_of p → RoundSays p (table_in c l) (table_in c l') y
-  pub writes : Writes c l l'
+pub record RoundPost (p : Prog) (l l' : List ℤ) (y : Bool) : Type 0 where
+  pub says : RoundSays p (table_in (counts_of p) l) (table_in (counts_of p) l') y
+  pub writes : Writes (counts_of p) l l'
   pub parts : LeastParts

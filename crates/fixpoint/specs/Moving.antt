@@ -7,9 +7,11 @@ use Rattle.program.specs.Rows.{Program}
 use Rattle.interval.specs.declared.Way.{Way}
 use Rattle.interval.specs.declared.Way.TheVariants.{Jump, Next}
 use Rattle.interval.specs.Ranges.{At}
+use Rattle.table.specs.declared.Hop.{Hop}
 use Rattle.table.specs.Tables.{Table, at}
 use Rattle.fixpoint.specs.declared.guess.Confirmed.{Confirmed}
-use Rattle.fixpoint.specs.Hops.{lands, after}
+use Rattle.table.specs.Hops.{lands}
+use Rattle.fixpoint.specs.Hops.{after}
 use Rattle.fixpoint.specs.Least.{Sound}
 use Rattle.fixpoint.specs.Rounds.{room}
 use Rattle.fixpoint.specs.Confirming.{moved_at, wider_at, Confirming, confirm_at, sweeps_of, reached, Confirms}
@@ -22,15 +24,8 @@ pub record Moved (c : Counts) (n : ℕ) (a : At) (l l' : List ℤ) (y : Bool) : 
   pub moved : y ≡ wider_at a (at (table_in c l) n)
 
 -- what a hop of a step of an array with so many words leaves of the place to which it leads
-abbrev pub moved_by : ℕ → Table → ℕ → ℕ → Step → Way → Table → At
-moved_by words m n to i w s = moved_at (at m to) (after words w i (at m n)) (after words w i (at s n)) (at s to)
-
-abbrev pub move_with : ℕ → Table → ℕ → Step → Way → Confirming → Confirming
-move_with words m n i w c = confirm_at (lands n i w) (moved_by words m n (lands n i w) i w c.table) c
-
--- Both hops of a step have been made. b says whether anything had moved before.
-abbrev pub StepMoved : Counts → Table → ℕ → ℕ → Step → List ℤ → List ℤ → Bool → Type 0
-StepMoved c m words n i l l' y = (b : Bool) → record { table = table_in c l'; moved = b || y } ≡ move_with words m n i Next (move_with words m n i Jump (record { table = table_in c l; moved = b }))
+abbrev pub moved_by : ℕ → Table → Hop → Table → At
+moved_by words m h s = moved_at (at m h.to.0) (after words h.way h.step (at m h.from.0)) (after words h.way h.step (at s h.from.0)) (at s h.to.0)
 
 -- What was answered of the guess m over t: whether it is confirmed, and after how many sweeps that was clear.
 pub record ConfirmSays (p : Prog) (t m : Table) (r : Confirmed) : Type 0 where
@@ -40,6 +35,6 @@ pub record ConfirmSays (p : Prog) (t m : Table) (r : Confirmed) : Type 0 where
   pub no_more : r.yes ≡ true → Sound p t → room p m ≤ room p t
   pub way : (n : ℕ) → Leads p n t → Leads p (n + r.sweeps) (cond r.yes m t)
 
-pub record ConfirmPost (s : List ℤ) (c : Counts) (l g : List ℤ) (limit : ℕ) (r : Confirmed) : Type 0 where
-  pub says : (p : Prog) → Program s p → c ≡ counts_of p → ConfirmSays p (table_in c l) (table_in c g) r
+pub record ConfirmPost (p : Prog) (l g : List ℤ) (limit : ℕ) (r : Confirmed) : Type 0 where
+  pub says : ConfirmSays p (table_in (counts_of p) l) (table_in (counts_of p) g) r
   pub few : r.sweeps ≤ limit

@@ -7,7 +7,8 @@ use Rattle.interval.specs.declared.Range.{Range}
 use Rattle.interval.specs.declared.Way.{Way}
 use Rattle.interval.specs.Ranges.{Box, At, never, within, join, inside1}
 use Rattle.table.specs.Tables.{Table, at, zeros}
-use Rattle.fixpoint.specs.Hops.{lands, carries, sweep}
+use Rattle.table.specs.Hops.{lands}
+use Rattle.fixpoint.specs.Hops.{carries, sweep}
 
 -- the least box, and the least that can be known, that holds both
 abbrev pub join_box : Box → Box → Box

@@ -1,38 +1,33 @@
 // Confirming a guess: sweeps that move the ends of a table out towards it. If each end has moved or reached the guess, every table
 // that holds contains the guess.
 
-ghost use Rattle.std.specs.Prelude.{◌≡◌, ◌+◌, ◌*◌, ◌<◌, ◌≤◌, length};
-ghost use Rattle.program.specs.Program.{Prog, counts_of};
-ghost use Rattle.program.specs.Rows.{Program};
-ghost use Rattle.table.specs.Tables.{target};
+ghost use Rattle.std.specs.Prelude.{◌≡◌, ◌*◌, ◌≤◌, length};
+ghost use Rattle.program.specs.Program.{counts_of};
 ghost use Rattle.table.specs.Rows.{wants};
 ghost use Rattle.fixpoint.specs.Confirming.{confirm_sweep};
 ghost use Rattle.fixpoint.specs.Joining.{table_in};
-ghost use Rattle.fixpoint.specs.Moving.{Moved, moved_by, StepMoved, ConfirmPost};
+ghost use Rattle.fixpoint.specs.Moving.{Moved, moved_by, ConfirmPost};
 
 use crate::making::make;
 use crate::moving::move_place;
 use crate::reaching::reached;
-use interval::Way;
-use program::{Counts, Step};
+use program::{Counts, Program};
+use table::{Hop, Hops};
 
-// Whether a guess was confirmed, and the sweeps that were made to tell.
-#[derive(Clone, Copy)]
+// Whether a guess was confirmed, and the sweeps that were made to tell: they count either way, so this is no Option of them.
+#[derive(Clone, Copy, PartialEq, Eq, Debug)]
 pub struct Confirmed {
     pub yes: bool,
     pub sweeps: u64,
 }
 
-// One hop of the step at a place. `made` has room for what it makes of the guess, and `grown` of the table that is moved. The
-// answers say whether an end moved.
+// `made` has room for what the hop makes of the guess, and `grown` of the table that is moved. The answers say whether an end
+// moved.
 fn move_hop(
     table: &mut [i64],
     counts: Counts,
     guess: &[i64],
-    n: usize,
-    to: usize,
-    step: Step,
-    way: Way,
+    hop: Hop,
     words: usize,
     made: &mut [i64],
     grown: &mut [i64],
@@ -43,93 +38,37 @@ fn move_hop(
     requires guess { length guess.now ≡ wants counts }
     requires made { length made.old ≡ 2 * counts.vars }
     requires grown { length grown.old ≡ 2 * counts.vars }
-    requires here { n ≤ counts.steps }
-    requires there { to ≤ counts.steps }
-    ensures { Moved counts to (moved_by words (table_in counts guess.now) n to step way (table_in counts table.old)) table.old table.new result }
+    requires here { hop.from.0 ≤ counts.steps }
+    requires there { hop.to.0 ≤ counts.steps }
+    ensures { Moved counts hop.to.0 (moved_by words (table_in counts guess.now) hop (table_in counts table.old)) table.old table.new result }
 {
-    let Some(made) = make(guess, counts, n, step, way, words, made) else {
+    let Some(made) = make(guess, counts, hop, words, made) else {
         return false;
     };
-    let Some(grown) = make(table, counts, n, step, way, words, grown) else {
+    let Some(grown) = make(table, counts, hop, words, grown) else {
         return false;
     };
-    move_place(table, counts, to, guess, made, grown)
-}
-
-fn move_hops(
-    table: &mut [i64],
-    counts: Counts,
-    guess: &[i64],
-    n: usize,
-    step: Step,
-    words: usize,
-    made: &mut [i64],
-    grown: &mut [i64],
-) -> bool
-    requires few { counts.vars ≤ 64 }
-    requires small { words ≤ 65536 }
-    requires long { length table.old ≡ wants counts }
-    requires guess { length guess.now ≡ wants counts }
-    requires made { length made.old ≡ 2 * counts.vars }
-    requires grown { length grown.old ≡ 2 * counts.vars }
-    requires here { n < counts.steps }
-    requires there { target step ≤ counts.steps }
-    ensures { StepMoved counts (table_in counts guess.now) words n step table.old table.new result }
-{
-    let to = table::place_named(step);
-    let jumped = move_hop(
-        table,
-        counts,
-        guess,
-        n,
-        to,
-        step,
-        Way::Jump,
-        words,
-        made,
-        grown,
-    );
-    let next = move_hop(
-        table,
-        counts,
-        guess,
-        n,
-        n + 1,
-        step,
-        Way::Next,
-        words,
-        made,
-        grown,
-    );
-    jumped | next
+    move_place(table, counts, hop.to.0, guess, made, grown)
 }
 
 fn sweep(
-    rows: &[i64],
-    counts: Counts,
+    program: &Program,
     table: &mut [i64],
     guess: &[i64],
     made: &mut [i64],
     grown: &mut [i64],
 ) -> bool
-    requires program { (p : Prog) × Program rows.now p × (counts ≡ counts_of p) }
-    requires long { length table.old ≡ wants counts }
-    requires guess { length guess.now ≡ wants counts }
-    requires made { length made.old ≡ 2 * counts.vars }
-    requires grown { length grown.old ≡ 2 * counts.vars }
-    ensures { (p : Prog) → Program rows.now p → counts ≡ counts_of p → record { table = table_in counts table.new; moved = result } ≡ confirm_sweep p (table_in counts guess.now) (table_in counts table.old) }
+    requires long { length table.old ≡ wants (counts_of program.now) }
+    requires guess { length guess.now ≡ wants (counts_of program.now) }
+    requires made { length made.old ≡ 2 * program.now.vars }
+    requires grown { length grown.old ≡ 2 * program.now.vars }
+    ensures { record { table = table_in (counts_of program.now) table.new; moved = result } ≡ confirm_sweep program.now (table_in (counts_of program.now) guess.now) (table_in (counts_of program.now) table.old) }
 {
+    let counts = program.counts();
     let mut moved = false;
-    let mut at = 3 + counts.arrays;
-    for n in 0..counts.steps {
-        match program::step_at(rows, counts, at) {
-            Ok((step, next)) => {
-                let words = table::words_of(rows, step);
-                moved = moved | move_hops(table, counts, guess, n, step, words, made, grown);
-                at = next;
-            }
-            Err(_) => unreachable(),
-        }
+    for hop in Hops::of(program) {
+        let words = table::words_of(program.rows(), hop.step);
+        moved |= move_hop(table, counts, guess, hop, words, made, grown);
     }
     moved
 }
@@ -137,8 +76,7 @@ fn sweep(
 // Confirms the guess over the table, or tells that so many sweeps don't. `moved` has room for a table, and `made` and `grown` for a
 // box each. Where the guess isn't confirmed, `moved` shows which ends have moved.
 pub fn confirm(
-    rows: &[i64],
-    counts: Counts,
+    program: &Program,
     table: &[i64],
     guess: &[i64],
     moved: &mut [i64],
@@ -146,28 +84,23 @@ pub fn confirm(
     grown: &mut [i64],
     limit: u64,
 ) -> Confirmed
-    requires program { (p : Prog) × Program rows.now p × (counts ≡ counts_of p) }
-    requires long { length table.now ≡ wants counts }
-    requires guess { length guess.now ≡ wants counts }
-    requires moved { length moved.old ≡ wants counts }
-    requires made { length made.old ≡ 2 * counts.vars }
-    requires grown { length grown.old ≡ 2 * counts.vars }
-    ensures { ConfirmPost rows.now counts table.now guess.now limit result }
+    requires long { length table.now ≡ wants (counts_of program.now) }
+    requires guess { length guess.now ≡ wants (counts_of program.now) }
+    requires moved { length moved.old ≡ wants (counts_of program.now) }
+    requires made { length made.old ≡ 2 * program.now.vars }
+    requires grown { length grown.old ≡ 2 * program.now.vars }
+    ensures { ConfirmPost program.now table.now guess.now limit result }
 {
+    let counts = program.counts();
     moved.copy_from_slice(table);
     let mut sweeps = 0;
     let mut going = true;
     loop {
-        if reached(table, counts, guess, moved) {
-            return Confirmed { yes: true, sweeps };
+        let yes = reached(table, counts, guess, moved);
+        if yes || !going || sweeps == limit {
+            return Confirmed { yes, sweeps };
         }
-        if !going {
-            return Confirmed { yes: false, sweeps };
-        }
-        if sweeps == limit {
-            return Confirmed { yes: false, sweeps };
-        }
-        going = sweep(rows, counts, moved, guess, made, grown);
+        going = sweep(program, moved, guess, made, grown);
         sweeps += 1;
     }
 }

@@ -8,26 +8,26 @@ ghost use Rattle.fixpoint.specs.Hops.{after};
 ghost use Rattle.fixpoint.specs.Joining.{table_in};
 
 use interval::Way;
-use program::{Counts, Step};
+use program::Counts;
+use table::Hop;
 
-// The number of a hop, from 1 on.
-pub fn hop_number(n: usize, way: Way) -> i64
-    requires { n ≤ 4096 }
+// The number of a hop, from 1 on: what lent numbers can note of it.
+pub fn hop_number(hop: Hop) -> i64
+    requires { hop.from.0 ≤ 4096 }
 {
-    match way {
-        Way::Jump => 1 + 2 * n as i64,
-        Way::Next => 2 + 2 * n as i64,
+    let first = 1 + 2 * hop.from.0 as i64;
+    match hop.way {
+        Way::Jump => first,
+        Way::Next => first + 1,
     }
 }
 
-// Makes in `out` what is known where the step at a place leads; false if nothing comes there. `words` is the length of the
-// array that the step names.
+// Makes in `out` what is known where a hop leads, if anything comes there. `words` is the length of the array that its step
+// names.
 pub fn make<'a>(
     table: &[i64],
     counts: Counts,
-    n: usize,
-    step: Step,
-    way: Way,
+    hop: Hop,
     words: usize,
     out: &'a mut [i64],
 ) -> Option<&'a [i64]>
@@ -35,13 +35,13 @@ pub fn make<'a>(
     requires small { words ≤ 65536 }
     requires long { length table.now ≡ wants counts }
     requires room { length out.old ≡ 2 * counts.vars }
-    requires here { n ≤ counts.steps }
-    ensures made { at_in result ≡ after words way step (at (table_in counts table.now) n) }
+    requires here { hop.from.0 ≤ counts.steps }
+    ensures made { at_in result ≡ after words hop.way hop.step (at (table_in counts table.now) hop.from.0) }
     ensures long { IfSome result (λ r. length r.now ≡ 2 * counts.vars) }
 {
-    let row = table::row_of(table, counts.vars, n);
+    let row = table::row_of(table, counts.vars, hop.from.0);
     if !table::is_known(row) {
         return None;
     }
-    interval::transfer(step, way, words, &row[1..], out)
+    interval::transfer(hop.step, hop.way, words, &row[1..], out)
 }

@@ -1,28 +1,24 @@
-// One round over a table: each hop of each step is joined into the place to which it leads. The hop that last widens an end is
+// One round over a table: what each hop makes is joined into the place to which it leads. The hop that last widens an end is
 // noted.
 
-ghost use Rattle.std.specs.Prelude.{◌≡◌, ◌+◌, ◌*◌, ◌<◌, ◌≤◌, length};
-ghost use Rattle.program.specs.Program.{Prog, counts_of};
-ghost use Rattle.program.specs.Rows.{Program};
-ghost use Rattle.table.specs.Tables.{at, target};
+ghost use Rattle.std.specs.Prelude.{◌≡◌, ◌*◌, ◌≤◌, length};
+ghost use Rattle.program.specs.Program.{counts_of};
+ghost use Rattle.table.specs.Tables.{at};
 ghost use Rattle.table.specs.Rows.{wants};
 ghost use Rattle.fixpoint.specs.Hops.{after};
-ghost use Rattle.fixpoint.specs.Joining.{table_in, Joined, Stepped, RoundPost};
+ghost use Rattle.fixpoint.specs.Joining.{table_in, Joined, RoundPost};
 
 use crate::joining::join_place;
 use crate::making::{hop_number, make};
 use crate::noting::note_place;
-use interval::Way;
-use program::{Counts, Step};
+use program::{Counts, Program};
+use table::{Hop, Hops};
 
-// One hop of the step at a place. The answers say whether anything changed.
-fn hop(
+// The answers say whether anything changed.
+fn join_hop(
     table: &mut [i64],
     counts: Counts,
-    n: usize,
-    to: usize,
-    step: Step,
-    way: Way,
+    hop: Hop,
     words: usize,
     out: &mut [i64],
     notes: &mut [i64],
@@ -33,68 +29,30 @@ fn hop(
     requires room { length out.old ≡ 2 * counts.vars }
     requires notes { length notes.old ≡ wants counts }
     requires short { counts.steps ≤ 4096 }
-    requires here { n ≤ counts.steps }
-    requires there { to ≤ counts.steps }
-    ensures { Joined counts to (after words way step (at (table_in counts table.old) n)) table.old table.new result }
+    requires here { hop.from.0 ≤ counts.steps }
+    requires there { hop.to.0 ≤ counts.steps }
+    ensures { Joined counts hop.to.0 (after words hop.way hop.step (at (table_in counts table.old) hop.from.0)) table.old table.new result }
 {
-    let Some(made) = make(table, counts, n, step, way, words, out) else {
+    let Some(made) = make(table, counts, hop, words, out) else {
         return false;
     };
-    note_place(notes, table, counts.vars, to, made, hop_number(n, way));
-    join_place(table, counts, to, made)
-}
-
-fn hops(
-    table: &mut [i64],
-    counts: Counts,
-    n: usize,
-    step: Step,
-    words: usize,
-    out: &mut [i64],
-    notes: &mut [i64],
-) -> bool
-    requires few { counts.vars ≤ 64 }
-    requires small { words ≤ 65536 }
-    requires long { length table.old ≡ wants counts }
-    requires room { length out.old ≡ 2 * counts.vars }
-    requires notes { length notes.old ≡ wants counts }
-    requires short { counts.steps ≤ 4096 }
-    requires here { n < counts.steps }
-    requires there { target step ≤ counts.steps }
-    ensures { Stepped counts words n step table.old table.new result }
-{
-    let to = table::place_named(step);
-    let jumped = hop(table, counts, n, to, step, Way::Jump, words, out, notes);
-    let next = hop(table, counts, n, n + 1, step, Way::Next, words, out, notes);
-    jumped | next
+    note_place(notes, table, counts.vars, hop.to.0, made, hop_number(hop));
+    join_place(table, counts, hop.to.0, made)
 }
 
 // One round over the table of a program; the answer is whether anything changed. `out` has room for a box, and `notes` has for
 // each number of the table the hop that last widened it there.
-pub fn round(
-    rows: &[i64],
-    counts: Counts,
-    table: &mut [i64],
-    out: &mut [i64],
-    notes: &mut [i64],
-) -> bool
-    requires program { (p : Prog) × Program rows.now p × (counts ≡ counts_of p) }
-    requires long { length table.old ≡ wants counts }
-    requires room { length out.old ≡ 2 * counts.vars }
-    requires notes { length notes.old ≡ wants counts }
-    ensures { RoundPost rows.now counts table.old table.new result }
+pub fn round(program: &Program, table: &mut [i64], out: &mut [i64], notes: &mut [i64]) -> bool
+    requires long { length table.old ≡ wants (counts_of program.now) }
+    requires room { length out.old ≡ 2 * program.now.vars }
+    requires notes { length notes.old ≡ wants (counts_of program.now) }
+    ensures { RoundPost program.now table.old table.new result }
 {
+    let counts = program.counts();
     let mut changed = false;
-    let mut at = 3 + counts.arrays;
-    for n in 0..counts.steps {
-        match program::step_at(rows, counts, at) {
-            Ok((step, next)) => {
-                let words = table::words_of(rows, step);
-                changed = changed | hops(table, counts, n, step, words, out, notes);
-                at = next;
-            }
-            Err(_) => unreachable(),
-        }
+    for hop in Hops::of(program) {
+        let words = table::words_of(program.rows(), hop.step);
+        changed |= join_hop(table, counts, hop, words, out, notes);
     }
     changed
 }

@@ -1,14 +1,18 @@
-use Rattle.std.proofs.Common.{◌≡◌, drop}
-use Rattle.program.specs.Program.{Prog, counts_of}
-use Rattle.program.specs.Rows.{Program}
-use Rattle.program.proofs.Walk.{Walk}
-use Rattle.fixpoint.specs.Hops.{sweep_from}
+use Rattle.std.proofs.Common.{◌≡◌}
+use Rattle.std.specs.List.{AllByRecursion}
+use Rattle.program.specs.Program.{counts_of}
+use Rattle.table.specs.Hops.{IsHop}
+use Rattle.fixpoint.specs.Hops.{through}
 use Rattle.fixpoint.specs.Confirming.{confirm_hop, confirm_sweep}
 use Rattle.fixpoint.specs.Joining.{table_in}
 use Rattle.fixpoint.proofs.guess.sweep.Given as goal
 
--- the hops of the steps that are left make the sweep
-abbrev pub invariant-loop-n : goal.invariant-loop-n
-invariant-loop-n l =
-    Walk l.rows l.counts l.at l.n
-    × ((p : Prog) → Program l.rows p → l.counts ≡ counts_of p → sweep_from (confirm_hop p (table_in l.counts l.guess)) l.n (drop l.n p.code) (record { table = table_in l.counts l.table; moved = l.moved }) ≡ confirm_sweep p (table_in l.counts l.guess) (table_in l.counts l.initial.table))
+-- the hops that are left make the sweep
+abbrev pub invariant-loop-hop : goal.invariant-loop-hop
+invariant-loop-hop l =
+    let p = l.program in
+    let m = table_in (counts_of p) l.guess in
+    record {
+      hops : AllByRecursion (IsHop p) l.hop-iterator;
+      sweep : through (confirm_hop p m) l.hop-iterator (record { table = table_in (counts_of p) l.table; moved = l.moved }) ≡ confirm_sweep p m (table_in (counts_of p) l.initial.table);
+    }
