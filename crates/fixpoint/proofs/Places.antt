@@ -3,7 +3,7 @@ use Rattle.std.proofs.Common.{◌≡◌, ℕ, zero, suc, ◌+◌, ◌-◌, ◌*�
 use lib.Seq.{take-append-add}
 use borrow.Rule.Slice.PartMut.{put_mid}
 use Rattle.std.specs.Option.{option_map}
-use Rattle.std.proofs.lemmas.List.{append_assoc, append-nil, length-take-le, length-drop, drop_all, drop-drop, drop_at}
+use Rattle.std.proofs.lemmas.List.{append_assoc, append-nil, length-take-le, length-drop, take_rest, drop_all, drop-drop, drop_at}
 use Rattle.std.proofs.lemmas.Slice.{between_is, between-put_mid, take-put_mid_below, drop-put_mid}
 use Rattle.program.specs.declared.Counts.{Counts}
 use Rattle.interval.specs.Ranges.{At}
@@ -23,6 +23,8 @@ row_kept (z ∷ s) ys l = ap (λ x. z ∷ x) (ap (λ x. ys ++ x) (drop_all (leng
 pub row_new : (row row' ys : List ℤ) → 0 < length row → row' ≡ set row 0 (pos 1) → put_mid 1 (length row' - 1) row' ys ≡ pos 1 ∷ ys
 row_new [] row' ys l e = absurd (omega arith)
 row_new (z ∷ s) row' ys l e = ap (λ r. put_mid 1 (length r - 1) r ys) e ∙ row_kept (pos 1 ∷ s) ys (omega arith)
+
+pub ruleset rows = (row_kept, row_new, take_rest)
 
 -- the table's places from the a-th number on depend on nothing before it
 same_from : (k a m : ℕ) (s u : List ℤ) → drop a s ≡ drop a u → table_of k a s m ≡ table_of k a u m

@@ -32,19 +32,3 @@ table_more c n l g v row goal moved long long-g long-v here e f h y is =
 
 pub place_done : (n : ℕ) (t m s : Table) → length t ≤ n → length m ≤ n → length s ≤ n → reached (drop n t) (drop n m) (drop n s) ≡ true
 place_done n t m s l lm ls = rw (drop_all n t l, drop_all n m lm, drop_all n s ls) refl
-
--- rows, by their first numbers
-abbrev pub flagged : Bool → List ℤ → At
-flagged t row = cond t (within (box_of (take (length row - 1) (drop 1 row)))) never
-
-place_flagged : (row : List ℤ) (t : Bool) → 0 < length row → is_number 1 (get_or row 0 (pos 0)) ≡ t → place_of row ≡ flagged t row
-place_flagged [] t l e = absurd (omega arith)
-place_flagged (z ∷ s) t l e = ap₂ (λ t r. cond t (within (box_of r)) never) e (sym (take_rest (z ∷ s) 1))
-
-pub rows_flagged : (b m s : List ℤ) (x y z : Bool) → 0 < length b → length m ≡ length b → length s ≡ length b → is_number 1 (get_or b 0 (pos 0)) ≡ x → is_number 1 (get_or m 0 (pos 0)) ≡ y → is_number 1 (get_or s 0 (pos 0)) ≡ z → reached_at (place_of b) (place_of m) (place_of s) ≡ reached_at (flagged x b) (flagged y m) (flagged z s)
-rows_flagged b m s x y z l lm ls e f g = rw (place_flagged b x l e, place_flagged m y (omega arith) f, place_flagged s z (omega arith) g) refl
-
-pub not_flagged : (x y : Bool) (m s : List ℤ) → (not x && not y) ≡ reached_at never (flagged x m) (flagged y s)
-not_flagged true y m s = refl
-not_flagged false true m s = refl
-not_flagged false false m s = refl

@@ -52,6 +52,7 @@ fn move_box(numbers: &mut [i64], guess: &[i64], made: &[i64], grown: &[i64]) -> 
     moved
 }
 
+#[tactic(auto, using(crate::proofs::Places::rows, crate::proofs::Moves::wider_self))]
 fn move_row(row: &mut [i64], guess: &[i64], made: &[i64], grown: &[i64]) -> bool
     requires guess { length guess.now ≡ length row.old }
     requires made { length row.old ≡ length made.now + 1 }
@@ -59,10 +60,7 @@ fn move_row(row: &mut [i64], guess: &[i64], made: &[i64], grown: &[i64]) -> bool
     ensures moved { place_of row.new ≡ moved_at (place_of guess.now) (within (box_of made.now)) (within (box_of grown.now)) (place_of row.old) }
     ensures wider { result ≡ wider_at (moved_at (place_of guess.now) (within (box_of made.now)) (within (box_of grown.now)) (place_of row.old)) (place_of row.old) }
 {
-    if !table::is_known(row) {
-        return false;
-    }
-    if !table::is_known(guess) {
+    if !table::is_known(row) || !table::is_known(guess) {
         return false;
     }
     move_box(&mut row[1..], &guess[1..], made, grown)

@@ -33,31 +33,21 @@ fn reached_box(b: &[i64], guess: &[i64], moved: &[i64]) -> bool
     true
 }
 
-// Whether nothing comes to the place of either row.
-fn unknown(guess: &[i64], moved: &[i64]) -> bool
-    requires guess { 0 < length guess.now }
-    requires moved { 0 < length moved.now }
-    ensures { result ≡ (not (is_number 1 (slice_index_or guess.now 0 (pos 0))) && not (is_number 1 (slice_index_or moved.now 0 (pos 0)))) }
-{
-    !table::is_known(guess) && !table::is_known(moved)
-}
-
 fn reached_row(b: &[i64], guess: &[i64], moved: &[i64]) -> bool
     requires some { 0 < length b.now }
     requires guess { length guess.now ≡ length b.now }
     requires moved { length moved.now ≡ length b.now }
     ensures { result ≡ reached_at (place_of b.now) (place_of guess.now) (place_of moved.now) }
 {
-    if !table::is_known(b) {
-        return unknown(guess, moved);
+    match (
+        table::is_known(b),
+        table::is_known(guess),
+        table::is_known(moved),
+    ) {
+        (true, true, true) => reached_box(&b[1..], &guess[1..], &moved[1..]),
+        (false, false, false) => true,
+        _ => false,
     }
-    if !table::is_known(guess) {
-        return false;
-    }
-    if !table::is_known(moved) {
-        return false;
-    }
-    reached_box(&b[1..], &guess[1..], &moved[1..])
 }
 
 pub(crate) fn reached(table: &[i64], counts: Counts, guess: &[i64], moved: &[i64]) -> bool
