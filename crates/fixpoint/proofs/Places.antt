@@ -118,3 +118,5 @@ module _ (c : Counts) (n : ℕ) (l : List ℤ) (long : length l ≡ wants c) (pl
           ∙ rows_set c.vars (table_in c l) n (place_of row) (table_of_wide c.vars 0 l (c.steps + 1) (omega arith)) (let h = length-table_of c.vars 0 l (c.steps + 1) in omega arith)
           ∙ ap₂ (put_mid (n * width c.vars) (width c.vars)) e (row_was c.vars 0 row long_row (row_fine row known))
           ∙ ap₂ (λ b j. put_mid b j l row) (sym starts) (sym wide)
+
+pub ruleset places = (place_at, row_within, place_here, put_table, put_writes)

@@ -9,7 +9,7 @@ use Rattle.table.specs.Rows.{width, wants, is_number, place_of}
 use Rattle.table.proofs.Rows.{length-table_of}
 use Rattle.fixpoint.specs.Confirming.{reached1, reached_box, reached_at, reached}
 use Rattle.fixpoint.specs.Joining.{table_in}
-use Rattle.fixpoint.proofs.Places.{place_at}
+use Rattle.fixpoint.proofs.Places.{place_at, row_within}
 
 abbrev row_in : Counts → List ℤ → ℕ → List ℤ
 row_in c l n = take (width c.vars) (drop (n * width c.vars) l)
@@ -32,3 +32,5 @@ table_more c n l g v row goal moved long long-g long-v here e f h y is =
 
 pub place_done : (n : ℕ) (t m s : Table) → length t ≤ n → length m ≤ n → length s ≤ n → reached (drop n t) (drop n m) (drop n s) ≡ true
 place_done n t m s l lm ls = rw (drop_all n t l, drop_all n m lm, drop_all n s ls) refl
+
+pub ruleset reaches = (place_at, row_within, length-table_of, table_more, place_more, place_done)

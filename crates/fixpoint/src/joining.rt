@@ -56,6 +56,7 @@ fn join_row(row: &mut [i64], made: &[i64]) -> bool
     join_box(&mut row[1..], made)
 }
 
+#[tactic(auto, using(crate::proofs::Places::places))]
 pub fn join_place(table: &mut [i64], counts: Counts, n: usize, made: &[i64]) -> bool
     requires few { counts.vars ≤ 64 }
     requires long { length table.old ≡ wants counts }

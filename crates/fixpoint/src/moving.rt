@@ -67,6 +67,7 @@ fn move_row(row: &mut [i64], guess: &[i64], made: &[i64], grown: &[i64]) -> bool
 }
 
 // Moves the ends of a place.
+#[tactic(auto, using(crate::proofs::Places::places))]
 pub(crate) fn move_place(
     table: &mut [i64],
     counts: Counts,

@@ -50,6 +50,7 @@ fn reached_row(b: &[i64], guess: &[i64], moved: &[i64]) -> bool
     }
 }
 
+#[tactic(auto, using(crate::proofs::Reaches::reaches))]
 pub(crate) fn reached(table: &[i64], counts: Counts, guess: &[i64], moved: &[i64]) -> bool
     requires few { counts.vars ≤ 64 }
     requires small { counts.steps ≤ 4096 }
