@@ -20,12 +20,6 @@ pub row_kept : (row ys : List ℤ) → 0 < length row → put_mid 1 (length row 
 row_kept [] ys l = absurd (omega arith)
 row_kept (z ∷ s) ys l = ap (λ x. z ∷ x) (ap (λ x. ys ++ x) (drop_all (length (z ∷ s) - 1) s (omega arith)) ∙ append-nil ys)
 
-pub row_new : (row row' ys : List ℤ) → 0 < length row → row' ≡ set row 0 (pos 1) → put_mid 1 (length row' - 1) row' ys ≡ pos 1 ∷ ys
-row_new [] row' ys l e = absurd (omega arith)
-row_new (z ∷ s) row' ys l e = ap (λ r. put_mid 1 (length r - 1) r ys) e ∙ row_kept (pos 1 ∷ s) ys (omega arith)
-
-pub ruleset rows = (row_kept, row_new, take_rest)
-
 -- the table's places from the a-th number on depend on nothing before it
 same_from : (k a m : ℕ) (s u : List ℤ) → drop a s ≡ drop a u → table_of k a s m ≡ table_of k a u m
 same_from k a zero s u e = refl

@@ -41,7 +41,7 @@ pub(crate) fn set_known(row: &mut [i64])
     row[0] = 1;
 }
 
-#[tactic(auto, using(crate::proofs::Places::rows))]
+#[tactic(auto, using(crate::proofs::Places::row_kept))]
 fn join_row(row: &mut [i64], made: &[i64]) -> bool
     requires { length row.old ≡ length made.now + 1 }
     ensures joined { place_of row.new ≡ join_at (place_of row.old) (within (box_of made.now)) }

@@ -52,7 +52,7 @@ fn move_box(numbers: &mut [i64], guess: &[i64], made: &[i64], grown: &[i64]) -> 
     moved
 }
 
-#[tactic(auto, using(crate::proofs::Places::rows, crate::proofs::Moves::wider_self))]
+#[tactic(auto, using(crate::proofs::Places::row_kept, crate::proofs::Moves::wider_self))]
 fn move_row(row: &mut [i64], guess: &[i64], made: &[i64], grown: &[i64]) -> bool
     requires guess { length guess.now ≡ length row.old }
     requires made { length row.old ≡ length made.now + 1 }
