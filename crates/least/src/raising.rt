@@ -30,6 +30,7 @@ fn raise_place(guess: &mut [i64], vars: usize, n: usize, notes: &[i64])
     raise_box(&mut ends[1..], &row[1..]);
 }
 
+#[tactic(auto, using(fixpoint::proofs::Places::row_within))]
 pub(crate) fn raise(guess: &mut [i64], counts: Counts, notes: &[i64])
     requires few { counts.vars ≤ 64 }
     requires small { counts.steps ≤ 4096 }
