@@ -28,12 +28,11 @@ fn move_hop(
     counts: Counts,
     guess: &[i64],
     hop: Hop,
-    words: usize,
+    words: u32,
     made: &mut [i64],
     grown: &mut [i64],
 ) -> bool
     requires few { counts.vars ≤ 64 }
-    requires small { words ≤ 65536 }
     requires long { length table.old ≡ wants counts }
     requires guess { length guess.now ≡ wants counts }
     requires made { length made.old ≡ 2 * counts.vars }

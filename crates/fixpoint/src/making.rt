@@ -28,11 +28,10 @@ pub fn make<'a>(
     table: &[i64],
     counts: Counts,
     hop: Hop,
-    words: usize,
+    words: u32,
     out: &'a mut [i64],
 ) -> Option<&'a [i64]>
     requires few { counts.vars ≤ 64 }
-    requires small { words ≤ 65536 }
     requires long { length table.now ≡ wants counts }
     requires room { length out.old ≡ 2 * counts.vars }
     requires here { hop.from.0 ≤ counts.steps }

@@ -19,12 +19,11 @@ fn join_hop(
     table: &mut [i64],
     counts: Counts,
     hop: Hop,
-    words: usize,
+    words: u32,
     out: &mut [i64],
     notes: &mut [i64],
 ) -> bool
     requires few { counts.vars ≤ 64 }
-    requires small { words ≤ 65536 }
     requires long { length table.old ≡ wants counts }
     requires room { length out.old ≡ 2 * counts.vars }
     requires notes { length notes.old ≡ wants counts }

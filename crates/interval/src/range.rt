@@ -62,20 +62,18 @@ impl Range {
     }
 
     // The places of an array.
-    pub(crate) fn places(words: usize) -> Range
-        requires { words ≤ 65536 }
+    pub(crate) fn places(words: u32) -> Range
         ensures { result ≡ inside words }
     {
         Range {
             lo: 0,
-            hi: words as i64 - 1,
+            hi: i64::from(words) - 1,
         }
     }
 
     // Whether every number in it is an index of so many.
     #[tactic(auto, using(crate::proofs::Ends::ends))]
-    pub(crate) fn in_array(self, words: usize) -> bool
-        requires { words ≤ 65536 }
+    pub(crate) fn in_array(self, words: u32) -> bool
         ensures { result ≡ in_array words self }
     {
         self.inside(Range::places(words))

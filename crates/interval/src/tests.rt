@@ -9,8 +9,7 @@ use program::Step;
 
 // Whether the test of a step can't fail where the variables lie in `from`, or it has none. `words` is the length of the
 // array that the step names.
-pub fn sure(step: Step, words: usize, from: &[i64]) -> bool
-    requires { words ≤ 65536 }
+pub fn sure(step: Step, words: u32, from: &[i64]) -> bool
     ensures { result ≡ sure words (box_of from.now) step }
 {
     match step {

@@ -60,8 +60,7 @@ fn jump(step: Step, numbers: &mut [i64]) -> Option<()>
     }
 }
 
-fn go_on(step: Step, words: usize, numbers: &mut [i64]) -> Option<()>
-    requires { words ≤ 65536 }
+fn go_on(step: Step, words: u32, numbers: &mut [i64]) -> Option<()>
     ensures { at_of result numbers.new ≡ makes words Next step (box_of numbers.old) }
 {
     match step {
@@ -99,12 +98,11 @@ fn go_on(step: Step, words: usize, numbers: &mut [i64]) -> Option<()>
 pub fn transfer<'a>(
     step: Step,
     way: Way,
-    words: usize,
+    words: u32,
     from: &[i64],
     out: &'a mut [i64],
 ) -> Option<&'a [i64]>
-    requires same { length out.old ≡ length from.now }
-    requires few { words ≤ 65536 }
+    requires { length out.old ≡ length from.now }
     ensures made { at_in result ≡ makes words way step (box_of from.now) }
     ensures long { IfSome result (λ r. length r.now ≡ length from.now) }
 {

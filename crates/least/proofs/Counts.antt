@@ -1,11 +1,10 @@
 -- Counting sweeps as far as 64 bits go.
 use Rattle.std.proofs.Common.{◌≡◌, ℕ, ◌+◌, ◌<◌, ◌≤◌, Bool, true, false, cond, T, List, ℤ, sym, refl, ap, ◌∙◌, subst, arith}
-use Rattle.program.specs.declared.Counts.{Counts}
-use Rattle.program.specs.Program.{Prog, counts_of}
+use Rattle.program.specs.Program.{Prog}
 use Rattle.program.specs.Rows.{Program}
 use Rattle.table.specs.Tables.{Table}
 use Rattle.fixpoint.specs.Least.{Sound}
-use Rattle.fixpoint.specs.Rounds.{start, room_table, room}
+use Rattle.fixpoint.specs.Rounds.{start, room}
 use Rattle.fixpoint.specs.Confirming.{Over}
 use Rattle.fixpoint.specs.Ways.{Leads, begin}
 use Rattle.fixpoint.specs.Joining.{RoundSays}
@@ -38,15 +37,14 @@ pub came_sound : (s : List ℤ) (p : Prog) (t : Table) (n : ℕ) → Program s p
 came_sound s p t n is w = way_sound s p w.sweeps t is w.leads
 
 -- a round that changes something leaves less room
-pub round_less : (s : List ℤ) (c : Counts) (p : Prog) (t t' : Table) (y : Bool) (n : ℕ) → Program s p → c ≡ counts_of p → Came p t n → RoundSays p t t' y → y ≡ true → room_table c.vars t' < room_table c.vars t
-round_less s c p t t' y n is e w r h = subst (λ c. room_table c.vars t' < room_table c.vars t) (sym e) (r.lowers (came_sound s p t n is w) h)
+pub round_less : (s : List ℤ) (p : Prog) (t t' : Table) (y : Bool) (n : ℕ) → Program s p → Came p t n → RoundSays p t t' y → y ≡ true → room p t' < room p t
+round_less s p t t' y n is w r h = r.lowers (came_sound s p t n is w) h
 
 -- and a guess after it no more
-pub guess_less : (s : List ℤ) (c : Counts) (p : Prog) (t t' t'' : Table) (y : Bool) (n k : ℕ) → Program s p → c ≡ counts_of p → Came p t n → RoundSays p t t' y → y ≡ true → Nearer p t' t'' k → room_table c.vars t'' < room_table c.vars t
-guess_less s c p t t' t'' y n k is e w r h g =
-    let less = round_less s c p t t' y n is e w r h in
-    let sound = came_sound s p t n is w in
-    let more : room_table c.vars t'' ≤ room_table c.vars t' = subst (λ c. room_table c.vars t'' ≤ room_table c.vars t') (sym e) (g.no_more (r.sound sound)) in
+pub guess_less : (s : List ℤ) (p : Prog) (t t' t'' : Table) (y : Bool) (n k : ℕ) → Program s p → Came p t n → RoundSays p t t' y → y ≡ true → Nearer p t' t'' k → room p t'' < room p t
+guess_less s p t t' t'' y n k is w r h g =
+    let less = round_less s p t t' y n is w r h in
+    let more = g.no_more (r.sound (came_sound s p t n is w)) in
     omega (arith, less, more)
 
 -- a guess that was confirmed after so many sweeps, and one that was not

@@ -1,10 +1,9 @@
 -- What is promised of each answer.
 use Rattle.std.proofs.Common.{◌≡◌, ℕ, ◌+◌, ◌*◌, ◌<◌, ◌≤◌, ◌⊎◌, List, length, take, drop, ℤ, sym, refl, ap, ◌∙◌, subst, inl, inr, arith}
-use Rattle.program.specs.declared.Counts.{Counts}
 use Rattle.program.specs.Program.{Prog, counts_of}
 use Rattle.program.specs.Rows.{Program}
 use Rattle.program.proofs.Whole.{one_program}
-use Rattle.table.specs.Rows.{row_t, wants}
+use Rattle.table.specs.Rows.{row_t}
 use Rattle.table.proofs.Rows.{one_table}
 use Rattle.table.proofs.Looks.{looking_once}
 use Rattle.table.proofs.Truth.{tables_true, never_fails}
@@ -35,7 +34,7 @@ apart : (r q : Found) → (kind r ≡ kind q → ⊥) → r ≡ q → ⊥
 apart r q h e = h (ap kind e)
 
 -- too few numbers are lent for the table or for the work
-abbrev Short : ℕ → ℕ → ℕ → Type 0
+abbrev pub Short : ℕ → ℕ → ℕ → Type 0
 Short b o w = (o < b) ⊎ (w < 4096 + 64 * b)
 
 module _ (s o o' : List ℤ) (w : ℕ) where
@@ -47,32 +46,26 @@ module _ (s o o' : List ℤ) (w : ℕ) where
     parts = parts;
   }
 
-  module _ (c : Counts) (p : Prog) (is : Program s p) (e : c ≡ counts_of p) where
-    pub few : Short (wants c) (length o) w → o' ≡ o → FoundPost s o o' w Few
+  module _ (p : Prog) (is : Program s p) where
+    pub few : Short (wants_of p) (length o) w → o' ≡ o → FoundPost s o o' w Few
     few short same = record {
       says = same;
       no_program = (λ h. absurd (h p is), λ f. absurd (apart Few NoProgram (λ z. omega arith) f));
-      few = (λ h. refl, λ f. (p, is, subst (λ c. Short (wants c) (length o) w) e short));
+      few = (λ h. refl, λ f. (p, is, short));
       parts = parts;
     }
 
-    pub found : (n : ℕ) (l : List ℤ) → wants c ≤ length o → 4096 + 64 * wants c ≤ w → length l ≡ wants c → take (wants c) o' ≡ l → drop (wants c) o' ≡ drop (wants c) o → Ended c p l n → FoundPost s o o' w (Ranges n)
+    pub found : (n : ℕ) (l : List ℤ) → wants_of p ≤ length o → 4096 + 64 * wants_of p ≤ w → length l ≡ wants_of p → take (wants_of p) o' ≡ l → drop (wants_of p) o' ≡ drop (wants_of p) o → Ended p l n → FoundPost s o o' w (Ranges n)
     found n l enough room long first rest end = record {
-      says = (p, table_in c l, is, end.least, ap (λ k. take k o') all ∙ first ∙ sym rows, ap (λ k. drop k o') all ∙ rest ∙ ap (λ k. drop k o) (sym all), (end.came.sweeps, end.came.leads, end.came.is_count));
+      says = (p, table_in (counts_of p) l, is, end.least, ap (λ k. take k o') all ∙ first ∙ sym end.rows, ap (λ k. drop k o') all ∙ rest ∙ ap (λ k. drop k o) (sym all), (end.came.sweeps, end.came.leads, end.came.is_count));
       no_program = (λ h. absurd (h p is), λ f. absurd (apart (Ranges n) NoProgram (λ z. omega arith) f));
-      few = (λ h. absurd (not_short (subst (λ b. Short b (length o) w) (same h.0 h.1) h.2)), λ f. absurd (apart (Ranges n) Few (λ z. omega arith) f));
+      few = (λ h. absurd (not_short (subst (λ q. Short (wants_of q) (length o) w) (one_program s h.0 p h.1 is) h.2)), λ f. absurd (apart (Ranges n) Few (λ z. omega arith) f));
       parts = parts;
     }
       where
-        rows : row_t p.vars (table_in c l) ≡ l
-        rows = ap (λ k. row_t k (table_in c l)) (ap (λ (c : Counts). c.vars) (sym e)) ∙ end.rows
+        all : length (row_t p.vars (table_in (counts_of p) l)) ≡ wants_of p
+        all = ap length end.rows ∙ long
 
-        all : length (row_t p.vars (table_in c l)) ≡ wants c
-        all = ap length rows ∙ long
-
-        same : (q : Prog) → Program s q → wants_of q ≡ wants c
-        same q k = ap wants_of (one_program s q p k is) ∙ ap wants (sym e)
-
-        not_short : Short (wants c) (length o) w → ⊥
+        not_short : Short (wants_of p) (length o) w → ⊥
         not_short (inl l) = omega arith
         not_short (inr l) = omega arith

@@ -1,7 +1,6 @@
 -- Ways to a table with their sweeps counted, and what a guess adds to them.
 use Rattle.std.specs.Prelude.{◌≡◌, ℕ, ◌+◌, ◌-◌, ◌^◌, ◌≤◌, min, Bool, true, cond, List, ℤ}
-use Rattle.program.specs.declared.Counts.{Counts}
-use Rattle.program.specs.Program.{Prog}
+use Rattle.program.specs.Program.{Prog, counts_of}
 use Rattle.table.specs.Tables.{Table}
 use Rattle.table.specs.Rows.{row_t}
 use Rattle.fixpoint.specs.Least.{Least, Sound}
@@ -32,7 +31,7 @@ pub record Nearer (p : Prog) (t t' : Table) (k : ℕ) : Type 0 where
   pub no_more : Sound p t → room p t' ≤ room p t
 
 -- these are the rows of the least table, and so many sweeps led to it
-pub record Ended (c : Counts) (p : Prog) (l : List ℤ) (k : ℕ) : Type 0 where
-  pub least : Least p (table_in c l)
-  pub rows : row_t c.vars (table_in c l) ≡ l
-  pub came : Came p (table_in c l) k
+pub record Ended (p : Prog) (l : List ℤ) (k : ℕ) : Type 0 where
+  pub least : Least p (table_in (counts_of p) l)
+  pub rows : row_t p.vars (table_in (counts_of p) l) ≡ l
+  pub came : Came p (table_in (counts_of p) l) k

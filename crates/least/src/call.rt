@@ -1,17 +1,17 @@
 // The call.
 
 ghost use Rattle.std.specs.Prelude.{◌≡◌, ◌+◌, ◌*◌, ◌≤◌, length};
-ghost use Rattle.program.specs.Program.{Prog, counts_of};
-ghost use Rattle.program.specs.Rows.{Program};
+ghost use Rattle.program.specs.Program.{counts_of};
 ghost use Rattle.table.specs.Rows.{wants};
 ghost use Rattle.least.specs.Going.{Ended};
 ghost use Rattle.least.specs.Says.{FoundPost};
 
 use crate::going::go_round;
-use program::Counts;
+use program::Program;
 
-// What was found: the least table, after so many rounds. Or the rows are no program, or too few numbers are lent.
-#[derive(Clone, Copy)]
+// What was found: the least table, after so many rounds. Or the rows are no program, or too few numbers are lent. The project's
+// statements fix this type of the call, so it is no Result.
+#[derive(Clone, Copy, PartialEq, Eq, Debug)]
 pub enum Found {
     Ranges(u64),
     NoProgram,
@@ -19,24 +19,25 @@ pub enum Found {
 }
 
 // Lays out the work numbers, and goes round.
-fn find_in(rows: &[i64], counts: Counts, table: &mut [i64], work: &mut [i64]) -> u64
-    requires program { (p : Prog) × Program rows.now p × (counts ≡ counts_of p) }
-    requires long { length table.old ≡ wants counts }
-    requires room { 4096 + 64 * wants counts ≤ length work.old }
-    ensures { (p : Prog) → Program rows.now p → counts ≡ counts_of p → Ended counts p table.new result }
+fn find_in(program: &Program, table: &mut [i64], work: &mut [i64]) -> u64
+    requires long { length table.old ≡ wants (counts_of program.now) }
+    requires room { 4096 + 64 * wants (counts_of program.now) ≤ length work.old }
+    ensures { Ended program.now table.new result }
 {
+    let vars = program.counts().vars;
     let (notes, rest) = work.split_at_mut(table.len());
-    let (out, rest) = rest.split_at_mut(2 * counts.vars);
-    go_round(rows, counts, table, notes, out, rest)
+    let (out, rest) = rest.split_at_mut(2 * vars);
+    go_round(program, table, notes, out, rest)
 }
 
 // Finds the least table of a program, and writes it first into `table`.
 pub fn find(program: &[i64], table: &mut [i64], work: &mut [i64]) -> Found
     ensures { FoundPost program.now table.old table.new (length work.old) result }
 {
-    let Ok(counts) = program::read(program) else {
+    let Ok(program) = program::read(program) else {
         return Found::NoProgram;
     };
+    let counts = program.counts();
     let size = (counts.steps + 1) * (1 + 2 * counts.vars);
     if table.len() < size {
         return Found::Few;
@@ -44,5 +45,5 @@ pub fn find(program: &[i64], table: &mut [i64], work: &mut [i64]) -> Found
     if work.len() < 4096 + 64 * size {
         return Found::Few;
     }
-    Found::Ranges(find_in(program, counts, &mut table[0..size], work))
+    Found::Ranges(find_in(&program, &mut table[0..size], work))
 }

@@ -1,8 +1,7 @@
 // A guess at a table to which rounds would come much later, and whether it is confirmed.
 
 ghost use Rattle.std.specs.Prelude.{◌≡◌, ◌+◌, ◌*◌, ◌≤◌, length};
-ghost use Rattle.program.specs.Program.{Prog, counts_of};
-ghost use Rattle.program.specs.Rows.{Program};
+ghost use Rattle.program.specs.Program.{counts_of};
 ghost use Rattle.table.specs.Rows.{wants};
 ghost use Rattle.fixpoint.specs.Joining.{table_in};
 ghost use Rattle.least.specs.Going.{Tried};
@@ -10,7 +9,7 @@ ghost use Rattle.least.specs.Going.{Tried};
 use crate::dropping::{drop_unmoved, widened};
 use crate::lowering::lower;
 use crate::raising::raise;
-use program::Counts;
+use program::Program;
 
 // What came of a guess: whether it was confirmed, whether that was so at the first try, and the sweeps that it took.
 #[derive(Clone, Copy)]
@@ -24,8 +23,7 @@ pub(crate) struct Guessed {
 // left of it. Each try but the last takes an end out. `notes` are changed with the guess; `moved` has room for a table, and
 // `made` and `grown` for a box each.
 fn settle(
-    rows: &[i64],
-    counts: Counts,
+    program: &Program,
     table: &[i64],
     guess: &mut [i64],
     notes: &mut [i64],
@@ -33,24 +31,23 @@ fn settle(
     made: &mut [i64],
     grown: &mut [i64],
 ) -> Guessed
-    requires program { (p : Prog) × Program rows.now p × (counts ≡ counts_of p) }
-    requires long { length table.now ≡ wants counts }
-    requires guess { length guess.old ≡ wants counts }
-    requires notes { length notes.old ≡ wants counts }
-    requires moved { length moved.old ≡ wants counts }
-    requires made { length made.old ≡ 2 * counts.vars }
-    requires grown { length grown.old ≡ 2 * counts.vars }
-    ensures { (p : Prog) → Program rows.now p → counts ≡ counts_of p → Tried p (table_in counts table.now) (table_in counts guess.new) result.yes result.sweeps }
+    requires long { length table.now ≡ wants (counts_of program.now) }
+    requires guess { length guess.old ≡ wants (counts_of program.now) }
+    requires notes { length notes.old ≡ wants (counts_of program.now) }
+    requires moved { length moved.old ≡ wants (counts_of program.now) }
+    requires made { length made.old ≡ 2 * program.now.vars }
+    requires grown { length grown.old ≡ 2 * program.now.vars }
+    ensures { Tried program.now (table_in (counts_of program.now) table.now) (table_in (counts_of program.now) guess.new) result.yes result.sweeps }
 {
     let mut sweeps = 0u64;
     let mut first = true;
     for _ in 0..table.len() {
-        sweeps = sweeps.saturating_add(lower(rows, counts, guess, table, notes, made));
+        sweeps = sweeps.saturating_add(lower(program, guess, table, notes, made));
         let ends = widened(table, guess);
         if ends == 0 {
             break;
         }
-        let tried = fixpoint::confirm(rows, counts, table, guess, moved, made, grown, ends);
+        let tried = fixpoint::confirm(program, table, guess, moved, made, grown, ends);
         sweeps = sweeps.saturating_add(tried.sweeps);
         if tried.yes {
             return Guessed {
@@ -71,20 +68,19 @@ fn settle(
 
 // Guesses that every end that has been widened goes on as far as the hop that last widened it carries it.
 pub(crate) fn propose(
-    rows: &[i64],
-    counts: Counts,
+    program: &Program,
     table: &[i64],
     notes: &[i64],
     guess: &mut [i64],
     work: &mut [i64],
 ) -> Guessed
-    requires program { (p : Prog) × Program rows.now p × (counts ≡ counts_of p) }
-    requires long { length table.now ≡ wants counts }
-    requires notes { length notes.now ≡ wants counts }
-    requires guess { length guess.old ≡ wants counts }
-    requires room { 2 * wants counts + 256 ≤ length work.old }
-    ensures { (p : Prog) → Program rows.now p → counts ≡ counts_of p → Tried p (table_in counts table.now) (table_in counts guess.new) result.yes result.sweeps }
+    requires long { length table.now ≡ wants (counts_of program.now) }
+    requires notes { length notes.now ≡ wants (counts_of program.now) }
+    requires guess { length guess.old ≡ wants (counts_of program.now) }
+    requires room { 2 * wants (counts_of program.now) + 256 ≤ length work.old }
+    ensures { Tried program.now (table_in (counts_of program.now) table.now) (table_in (counts_of program.now) guess.new) result.yes result.sweeps }
 {
+    let counts = program.counts();
     let (active, rest) = work.split_at_mut(table.len());
     let (moved, rest) = rest.split_at_mut(table.len());
     let (made, rest) = rest.split_at_mut(2 * counts.vars);
@@ -92,5 +88,5 @@ pub(crate) fn propose(
     guess.copy_from_slice(table);
     active.copy_from_slice(notes);
     raise(guess, counts, active);
-    settle(rows, counts, table, guess, active, moved, made, grown)
+    settle(program, table, guess, active, moved, made, grown)
 }

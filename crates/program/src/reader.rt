@@ -138,6 +138,7 @@ pub fn step_at(rows: &[i64], counts: Counts, at: usize) -> Result<(Step, usize),
     ensures { result ≡ next_at counts rows.now at }
 {
     let start = at.min(rows.len());
+    // tried as `map_err`: that the place of this refusal, moved on, has its place in 64 bits isn't known to a closure
     match step_in(&rows[start..], counts) {
         Ok(step) => Ok((step, start + step.width())),
         Err(f) => Err(Refusal {

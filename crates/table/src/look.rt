@@ -45,11 +45,10 @@ fn check_hop(
     table: &[i64],
     vars: usize,
     hop: Hop,
-    words: usize,
+    words: u32,
     out: &mut [i64],
 ) -> Result<(), Fault>
     requires few { vars ≤ 64 }
-    requires small { words ≤ 65536 }
     requires room { length out.old ≡ 2 * vars }
     requires here { hop.from.0 * width vars + width vars ≤ length table.now }
     requires there { hop.to.0 * width vars + width vars ≤ length table.now }
@@ -67,15 +66,15 @@ fn check_hop(
     ))
 }
 
-fn length_of(rows: &[i64], array: Array) -> usize
+fn length_of(rows: &[i64], array: Array) -> u32
     ensures few { result ≤ 65536 }
     ensures length { (p : Prog) → Reads rows.now p → array.0 < length p.arrays → result ≡ slice_index p.arrays array.0 }
 {
-    program::array_length(rows, array).unwrap_or(0)
+    program::array_length(rows, array).unwrap_or(0) as u32
 }
 
 // The length of the array that a step of the program names.
-pub fn words_of(rows: &[i64], step: Step) -> usize
+pub fn words_of(rows: &[i64], step: Step) -> u32
     ensures few { result ≤ 65536 }
     ensures words { (p : Prog) → Reads rows.now p → T (ok_i (counts_of p) step) → result ≡ words_of p step }
 {

@@ -30,7 +30,6 @@ move_hop-moved-requires c =
     let hop = (subst (AllByRecursion (IsHop p)) c.in-Some.ensures.steps c.loop-hop.invariant.hops).0 in
     rw c.counts-counts.ensures.exact record {
       few = few_vars (row_p p) p c.of-hop-items.ensures.fine;
-      small = c.words_of-words.ensures.few;
       long = c.loop-hop.auto.table ∙ c.requires.long;
       guess = c.requires.guess;
       made = c.loop-hop.auto.made ∙ c.requires.made;

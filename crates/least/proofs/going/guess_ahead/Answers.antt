@@ -1,11 +1,20 @@
-use Rattle.fixpoint.specs.Joining.{table_in}
+use Rattle.std.proofs.Common.{◌≡◌, subst}
+use Rattle.program.specs.declared.Counts.{Counts}
+use Rattle.program.specs.Program.{counts_of}
+use Rattle.fixpoint.specs.Confirming.{Over}
+use Rattle.fixpoint.specs.Joining.{table_in, Writes}
 use Rattle.least.proofs.Counts.{taken_nearer}
 use Rattle.least.proofs.going.guess_ahead.Goals as goal
 
 pub returns-then-guessed : goal.returns-then-guessed
 returns-then-guessed c =
-    let k = c.args.counts in
+    let p = c.args.program.now in
+    let k = counts_of p in
+    let t = c.args.table.now in
+    let t' = c.take_over.new.table in
+    let m = c.propose-guessed.new.guess in
+    let exact = c.counts.ensures.exact in
     record {
-      nearer = λ p is e. taken_nearer p (table_in k c.args.table.now) (table_in k c.propose-guessed.new.guess) (table_in k c.take_over.new.table) c.propose-guessed.result.yes _ c.if-guessed.true (c.propose-guessed.ensures p is e) c.take_over.ensures.taken;
-      writes = c.take_over.ensures.writes;
+      nearer = taken_nearer p (table_in k t) (table_in k m) (table_in k t') c.propose-guessed.result.yes _ c.if-guessed.true c.propose-guessed.ensures (subst (λ (k : Counts). Over (table_in k t) (table_in k m) → table_in k t' ≡ table_in k m) exact c.take_over.ensures.taken);
+      writes = subst (λ k. Writes k t t') exact c.take_over.ensures.writes;
     }

@@ -1,18 +1,31 @@
-use Rattle.std.proofs.Common.{◌∙◌}
-use Rattle.table.proofs.Steps.{target_there, step_fine}
+use Rattle.std.proofs.Common.{◌≤◌, sym, ◌∙◌, subst, arith}
+use Rattle.std.specs.List.{AllByRecursion}
+use Rattle.program.specs.Rows.{row_p}
+use Rattle.program.proofs.Whole.{few_vars, few_steps}
+use Rattle.table.specs.Hops.{IsHop}
+use Rattle.table.proofs.Hopping.{hops_are}
 use Rattle.least.proofs.lowering.lower_sweep.Goals as goal
 
-pub lower_hops-changed-requires : goal.lower_hops-changed-requires
-lower_hops-changed-requires c =
-    let k = c.args.counts in
-    record {
-      few = c.requires.few;
-      short = c.requires.short;
-      small = c.words_of-words.ensures.few;
-      guess = c.loop-n.auto.guess ∙ c.requires.guess;
+pub loop-hop-init : goal.loop-hop-init
+loop-hop-init c =
+    let p = c.args.program.now in
+    subst (AllByRecursion (IsHop p)) (sym (c.into_iter-hop-iterator.ensures.into_iter_gives ∙ c.of-hop-items.ensures.all)) (hops_are p c.of-hop-items.ensures.fine)
+
+pub lower_hop-changed-requires : goal.lower_hop-changed-requires
+lower_hop-changed-requires c =
+    let p = c.args.program.now in
+    let fine = c.of-hop-items.ensures.fine in
+    let hop = (subst (AllByRecursion (IsHop p)) c.in-Some.ensures.steps c.loop-hop.invariant).0 in
+    rw c.counts-counts.ensures.exact record {
+      few = few_vars (row_p p) p fine;
+      short = few_steps (row_p p) p fine;
+      guess = c.loop-hop.auto.guess ∙ c.requires.guess;
       table = c.requires.table;
       notes = c.requires.notes;
-      made = c.loop-n.auto.made ∙ c.requires.made;
-      here = c.loop-n-test.true;
-      there = target_there k c.in-Ok.step (step_fine c.args.rows.now k c.loop-n.at c.in-Ok.step c.in-Ok.next c.in-Ok.ensures);
+      made = c.loop-hop.auto.made ∙ c.requires.made;
+      here = omega (arith, hop.from);
+      there = hop.to;
     }
+
+pub loop-hop-preserved : goal.loop-hop-preserved
+loop-hop-preserved c = (subst (AllByRecursion (IsHop c.args.program.now)) c.in-Some.ensures.steps c.loop-hop.invariant).1

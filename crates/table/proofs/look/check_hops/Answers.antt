@@ -27,7 +27,6 @@ check_hop-requires c =
     let all : (length p.code + 1) * w ≤ length c.args.table.now = omega (arith, c.requires.long) in
     rw vars record {
       few = few_vars (row_p p) p fine;
-      small = c.words_of-words.ensures.few;
       room = c.loop-hop.auto.out ∙ c.requires.room;
       here = row_there c.in-Some.hop.from.0 (length p.code + 1) w (length c.args.table.now) (omega (arith, hop.from)) all;
       there = row_there c.in-Some.hop.to.0 (length p.code + 1) w (length c.args.table.now) (omega (arith, hop.to)) all;
