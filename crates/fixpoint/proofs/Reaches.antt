@@ -1,14 +1,10 @@
 -- What looking whether a guess is reached goes by.
-use Rattle.std.proofs.Common.{◌≡◌, ℕ, ◌+◌, ◌-◌, ◌*◌, ◌<◌, ◌≤◌, Bool, true, false, cond, not, ◌&&◌, List, [], ◌∷◌, length, get_or, take, drop, ℤ, pos, sym, refl, ap, ◌∙◌, ap₂, arith}
-use Rattle.std.proofs.lemmas.List.{drop_all, drop_more, take_rest}
-use Rattle.program.specs.declared.Counts.{Counts}
-use Rattle.interval.specs.Ranges.{Box, At, never, within, any}
-use Rattle.interval.specs.Boxes.{box_of}
+use Rattle.std.proofs.Common.{◌≡◌, ℕ, ◌+◌, ◌<◌, ◌≤◌, true, ◌&&◌, length, drop, refl}
+use Rattle.std.proofs.lemmas.List.{drop_all, drop_more}
+use Rattle.interval.specs.Ranges.{never}
 use Rattle.table.specs.Tables.{Table, at}
-use Rattle.table.specs.Rows.{width, wants, is_number, place_of}
 use Rattle.table.proofs.Rows.{length-table_of}
-use Rattle.fixpoint.specs.Confirming.{reached1, reached_box, reached_at, reached}
-use Rattle.fixpoint.specs.Joining.{table_in}
+use Rattle.fixpoint.specs.Confirming.{reached_at, reached}
 use Rattle.fixpoint.proofs.Places.{place_at, row_within}
 
 -- one more place

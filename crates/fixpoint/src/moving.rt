@@ -1,11 +1,10 @@
 // Moving the ends of a place out, towards those of a guess.
 
-ghost use Rattle.std.specs.Prelude.{◌≡◌, ◌+◌, ◌*◌, ◌≤◌, not, length, if◌then◌else◌, slice_index_or, slice_set};
-ghost use Rattle.number.specs.Numbers.{le_z};
+ghost use Rattle.std.specs.Prelude.{◌≡◌, ◌+◌, ◌*◌, ◌≤◌, not, length, slice_index_or, slice_set};
 ghost use Rattle.interval.specs.Ranges.{any, within, inside1};
 ghost use Rattle.interval.specs.Boxes.{box_of};
 ghost use Rattle.table.specs.Tables.{at};
-ghost use Rattle.table.specs.Rows.{width, wants, place_of};
+ghost use Rattle.table.specs.Rows.{wants, place_of};
 ghost use Rattle.fixpoint.specs.Confirming.{moved1, moved_box, moved_at, wider_box, wider_at};
 ghost use Rattle.fixpoint.specs.Joining.{table_in};
 ghost use Rattle.fixpoint.specs.Moving.{Moved};
@@ -84,6 +83,6 @@ pub(crate) fn move_place(
     requires grown { length grown.now ≡ 2 * counts.vars }
     ensures { Moved counts n (moved_at (at (table_in counts guess.now) n) (within (box_of made.now)) (within (box_of grown.now)) (at (table_in counts table.old) n)) table.old table.new result }
 {
-    let goal = table::row_of(guess, counts.vars, n);
-    move_row(&mut table[table::row_bounds(counts.vars, n)], goal, made, grown)
+    let row = &mut table[table::row_bounds(counts.vars, n)];
+    move_row(row, table::row_of(guess, counts.vars, n), made, grown)
 }

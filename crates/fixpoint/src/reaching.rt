@@ -1,14 +1,13 @@
 // Whether each end has reached the guess or moved towards it.
 
-ghost use Rattle.std.specs.Prelude.{◌≡◌, ◌<◌, ◌≤◌, not, ◌&&◌, ◌||◌, length, pos, slice_index_or};
-ghost use Rattle.number.specs.Numbers.{le_z, less_z};
+ghost use Rattle.std.specs.Prelude.{◌≡◌, ◌<◌, ◌≤◌, length};
 ghost use Rattle.interval.specs.Boxes.{box_of};
-ghost use Rattle.table.specs.Rows.{wants, is_number, place_of};
+ghost use Rattle.table.specs.Rows.{wants, place_of};
 ghost use Rattle.fixpoint.specs.Confirming.{reached1, reached_box, reached_at, reached};
 ghost use Rattle.fixpoint.specs.Joining.{table_in};
 
 use interval::Range;
-use program::{Counts, Var};
+use program::Counts;
 
 fn reached_range(b: Range, guess: Range, moved: Range) -> bool
     ensures { result ≡ reached1 b guess moved }

@@ -4,16 +4,16 @@ use Rattle.fixpoint.proofs.reaching.reached_range.Goals as goal
 
 pub returns-then-guess-moved : goal.returns-then-guess-moved
 returns-then-guess-moved c =
-    elim c.if-inside.branch
-  [ then-inside+then-moved-guess w ↦ search (rules, tests)
-  | then-inside+else-moved-guess w ↦ search (rules, tests)
-  | else-inside w ↦ search (rules, tests)
-  ]
+    elim c.if-inside.branch [
+      | then-inside+then-moved-guess w ↦ search (rules, tests)
+      | then-inside+else-moved-guess w ↦ search (rules, tests)
+      | else-inside w ↦ search (rules, tests)
+    ]
 
 pub returns-else-guess-moved : goal.returns-else-guess-moved
 returns-else-guess-moved c =
-    elim c.if-inside.branch
-  [ then-inside+then-moved-guess w ↦ search (rules, tests)
-  | then-inside+else-moved-guess w ↦ search (rules, tests)
-  | else-inside w ↦ search (rules, tests)
-  ]
+    elim c.if-inside.branch [
+      | then-inside+then-moved-guess w ↦ search (rules, tests)
+      | then-inside+else-moved-guess w ↦ search (rules, tests)
+      | else-inside w ↦ search (rules, tests)
+    ]
