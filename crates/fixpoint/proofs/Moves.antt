@@ -26,10 +26,6 @@ use Rattle.fixpoint.specs.Moving.{Moved, moved_by, ConfirmSays}
 use Rattle.fixpoint.proofs.Ways.{guess_sound, guess_no_more, way_spent}
 
 -- where a hop makes nothing, of the guess or of the table, nothing moves
-pub no_goal : (mm ms s : At) → moved_at never mm ms s ≡ s
-no_goal mm ms never = refl
-no_goal mm ms (within s) = refl
-
 pub no_made : (m ms s : At) → moved_at m never ms s ≡ s
 no_made m ms never = refl
 no_made never ms (within s) = refl
