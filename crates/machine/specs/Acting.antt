@@ -1,20 +1,16 @@
 -- What one step does to lent memory.
-use Rattle.std.specs.Prelude.{◌≡◌, ℕ, ◌+◌, ◌<◌, ◌≤◌, Bool, true, false, List, length, drop, ℤ, pos, ◌+ℤ◌, ◌-ℤ◌, ◌*ℤ◌, Some, None, Option, slice_index_or}
+use Rattle.std.specs.Prelude.{◌≡◌, ℕ, ◌+◌, ◌<◌, ◌≤◌, Bool, true, List, length, drop, ℤ, pos, ◌+ℤ◌, ◌-ℤ◌, ◌*ℤ◌, Some, None, Option, T, slice_index_or}
 use Rattle.number.specs.Numbers.{in64}
 use Rattle.program.specs.declared.Step.{Step}
 use Rattle.program.specs.declared.Step.TheVariants.{Set, Add, Sub, Mul, Load, Store, Ask, Show, Go, Less, Stop}
 use Rattle.program.specs.declared.Place.{Place}
-use Rattle.program.specs.Program.{Prog}
+use Rattle.program.specs.Program.{Prog, counts_of}
+use Rattle.program.specs.Rows.{ok_i}
 use Rattle.program.specs.Runs.{State, on, stopped, fails, value, words, index_of, index, act}
 use Rattle.machine.specs.declared.cursor.Cursor.{Cursor}
 use Rattle.machine.specs.declared.cursor.Outcome.{Outcome}
 use Rattle.machine.specs.declared.cursor.Outcome.TheVariants.{On, Stopped, Failed, Full}
-use Rattle.machine.specs.Layout.{state_of}
-
--- numbers that were changed, if the answer was yes
-abbrev pub changed : Bool → List ℤ → Option (List ℤ)
-changed true s = Some s
-changed false s = None
+use Rattle.machine.specs.Layout.{state_of, Laid}
 
 -- the length of an array as the rows have it, and where the array begins
 abbrev pub words_at : List ℤ → ℕ → ℕ
@@ -30,9 +26,9 @@ to c t = record { place = t.0; taken = c.taken; count = c.count }
 abbrev pub onward : Cursor → Cursor
 onward c = record { place = c.place + 1; taken = c.taken; count = c.count }
 
-abbrev pub settled : Cursor → Bool → Outcome
-settled c true = On (onward c)
-settled c false = Failed
+abbrev pub settled : Cursor → Option (Unit {0}) → Outcome
+settled c (Some passed) = On (onward c)
+settled c None = Failed
 
 -- whether the test of a step passes; one that has none does
 abbrev pub passes : Prog → State → Step → Bool
@@ -47,6 +43,16 @@ passes p s (Show e) = true
 passes p s (Go t) = true
 passes p s (Less e f t) = true
 passes p s Stop = true
+
+-- where a step can be done: memory is laid out for the program, the step is one of it and at a place of a step, and its test
+-- passes if it is sure
+pub record Ready (p : Prog) (c : Cursor) (st vs m q o : List ℤ) (sure : Bool) (i : Step) : Type 0 where
+  pub laid : Laid p st vs m
+  pub here : c.place < length p.code
+  pub taken : c.taken ≤ length q
+  pub count : c.count ≤ length o
+  pub names : T (ok_i (counts_of p) i)
+  pub passes : sure ≡ true → passes p (state_of p.arrays c vs m q o) i ≡ true
 
 -- the step does what the program does: vs, m and o are the variables, the arrays and the room for what is shown before it,
 -- vs', m' and o' after it, q the numbers handed in

@@ -1,31 +1,26 @@
 // Taking the numbers handed in, and showing numbers.
 
-ghost use Rattle.std.specs.Prelude.{◌≡◌, ◌+◌, ◌<◌, length, pos, if◌then◌else◌, Some, None, nat_lt, slice_index_or, slice_set};
-ghost use Rattle.machine.specs.Acting.{changed};
+ghost use Rattle.std.specs.Prelude.{◌≡◌, ◌+◌, length, pos, if◌then◌else◌, Some, None, nat_lt, slice_index_or, slice_set};
+ghost use Rattle.std.specs.Option.{option_map};
 
-use program::Var;
-
-// The variable becomes the next number handed in, or 0 where there is none; how many are taken then.
-pub(crate) fn ask(vars: &mut [i64], asked: &[i64], taken: usize, x: Var) -> usize
-    requires { x.0 < length vars.old }
-    ensures vars { vars.new ≡ slice_set vars.old x.0 (slice_index_or asked.now taken (pos 0)) }
-    ensures taken { result ≡ (if nat_lt taken (length asked.now) then taken + 1 else taken) }
+// The next number handed in, or 0 where there is none, and how many are taken then.
+pub(crate) fn ask(asked: &[i64], taken: usize) -> (i64, usize)
+    ensures number { result.0 ≡ slice_index_or asked.now taken (pos 0) }
+    ensures taken { result.1 ≡ (if nat_lt taken (length asked.now) then taken + 1 else taken) }
 {
-    if taken < asked.len() {
-        vars[x.0] = asked[taken];
-        return taken + 1;
+    match asked.get(taken) {
+        Some(z) => (*z, taken + 1),
+        None => (0, taken),
     }
-    vars[x.0] = 0;
-    taken
 }
 
-// Shows a number behind so many; whether there is room for it.
-pub(crate) fn show(shown: &mut [i64], count: usize, v: i64) -> bool
-    ensures { changed result shown.new ≡ (if nat_lt count (length shown.old) then Some (slice_set shown.old count v) else None) }
+// Shows a number behind so many, if there is room for it.
+pub(crate) fn show(shown: &mut [i64], count: usize, v: i64) -> Option<()>
+    ensures { option_map (λ _. shown.new) result ≡ (if nat_lt count (length shown.old) then Some (slice_set shown.old count v) else None) }
 {
     if count >= shown.len() {
-        return false;
+        return None;
     }
     shown[count] = v;
-    true
+    Some(())
 }

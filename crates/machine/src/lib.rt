@@ -11,5 +11,5 @@ mod variables;
 
 pub use action::perform;
 pub use cursor::{Cursor, Outcome};
-pub use marks::{is_sure, mark_steps, offset};
+pub use marks::{Mark, mark_steps};
 pub use row::fetch;

@@ -1,4 +1,5 @@
-// Reading a step that is known to be there.
+// Reading a step that is known to be there. program::step_at tells kinds apart too, and tests each number: a run is not to do
+// that again at each step.
 
 ghost use Rattle.std.specs.Prelude.{◌≡◌, List, ◌++◌, drop, ℤ};
 ghost use Rattle.program.specs.declared.Step.{Step};

@@ -1,59 +1,57 @@
-use Rattle.std.proofs.Common.{◌≡◌, ◌+◌, ◌^◌, ◌<◌, ◌≤◌, ◌∷◌, ◌++◌, length, get_or, take, drop, pos, sym, refl, ap, ◌∙◌, subst, arith, w64, to_z, rules}
-use Rattle.std.proofs.lemmas.Int.{to_z_pos}
-use Rattle.std.proofs.lemmas.List.{drop_all, drop_more, take_all, append-nil}
-use Rattle.std.proofs.lemmas.Option.{slice_get-get_or}
-use Rattle.std.proofs.lemmas.Bool.{leb-true}
-use Rattle.program.specs.declared.Field.TheVariants.{Length}
-use Rattle.program.proofs.Results.{T_true, ok_same, err_not_ok, index_was}
-use Rattle.program.proofs.Whole.{few_arrays, one_program}
+use Rattle.std.proofs.Common.{◌+◌, ◌<◌, ◌≤◌, ◌∷◌, ◌++◌, length, get_or, take, drop, set, pos, sym, ap, ◌∙◌, arith, w64, to_z}
+use Rattle.std.proofs.lemmas.List.{append-nil, drop_all, drop_more, take_all}
+use Rattle.program.specs.Rows.{row_p}
+use Rattle.program.specs.Program.{total}
+use Rattle.program.proofs.Whole.{few_words, length-nats}
 use Rattle.machine.specs.Layout.{starts_from}
-use Rattle.interpreter.proofs.Filling.{written_more}
+use Rattle.interpreter.proofs.Filling.{nats_at, total_more, added, written_more}
 use Rattle.interpreter.proofs.memory.write_starts.Goals as goal
 
-pub loop-k-init : goal.loop-k-init
-loop-k-init c = (omega arith, λ p is. refl)
+pub bounds-starts-k : goal.bounds-starts-k
+bounds-starts-k c =
+    let long = ap length c.arrays-n-items.ensures ∙ length-nats c.args.program.now.arrays in
+    omega (arith, long, c.requires.room, c.loop-k.auto.starts, c.loop-k-test.true)
 
-pub unreachable-requires : goal.unreachable-requires
-unreachable-requires c =
-    let found = c.requires.program in
+pub overflow_add-at : goal.overflow_add-at
+overflow_add-at c =
+    let p = c.args.program.now in
     let k = c.loop-k.k in
-    err_not_ok _ _ (c.in-Err.ensures.length found.0 (get_or found.0.arrays k 0) found.1 (slice_get-get_or found.0.arrays k 0 (omega (arith, found.2))))
-
-pub overflow_cast-starts : goal.overflow_cast-starts
-overflow_cast-starts c =
-    let found = c.requires.program in
-    let few = few_arrays c.args.rows.now found.0 found.1 in
-    let most : c.loop-k.at < 2 ^ 63 = omega (arith, c.loop-k.invariant.0, found.2, few) in
-    search (rules, most)
+    let there : k < length p.arrays = omega (arith, ap length c.arrays-n-items.ensures ∙ length-nats p.arrays, c.loop-k-test.true) in
+    let more = total_more p.arrays k there in
+    let few = few_words (row_p p) p c.requires.program in
+    let this = ap (λ s. get_or s k (pos 0)) c.arrays-n-items.ensures ∙ nats_at p.arrays k there in
+    (added _ _ _ _ c.loop-k.invariant.0 this (omega (arith, more.1, few))).1
 
 pub loop-k-preserved : goal.loop-k-preserved
 loop-k-preserved c =
-    let s = c.args.rows.now in
+    let p = c.args.program.now in
+    let ns = p.arrays in
     let k = c.loop-k.k in
-    let n = c.in-Ok.n in
-    let found = c.requires.program in
-    let small : n ≤ 65536 = leb-true n 65536 (T_true _ (index_was s (2 + k) Length n (sym c.in-Ok.ensures.exact)).1) in (
-      omega (arith, c.loop-k.invariant.0, small),
-      λ p is.
-          let there : k < length p.arrays = subst (λ p. k < length p.arrays) (one_program s found.0 p found.1 is) (omega (arith, found.2)) in
-          let this : n ≡ get_or p.arrays k 0 = ok_same _ _ (c.in-Ok.ensures.length p (get_or p.arrays k 0) is (slice_get-get_or p.arrays k 0 there)) in
-          let at = c.loop-k.at in
-          let few = few_arrays s found.0 found.1 in
-          let at-is : to_z w64 at ≡ pos at = to_z_pos w64 at (omega (arith, c.loop-k.invariant.0, found.2, few)) in
-          let left = starts_from (at + n) (drop (k + 1) p.arrays) in
-          written_more c.loop-k.starts left k (to_z w64 at) (omega (arith, c.loop-k.auto.starts, c.requires.room))
-          ∙ ap (λ z. take k c.loop-k.starts ++ (z ∷ left)) at-is
-          ∙ ap (λ n. take k c.loop-k.starts ++ (pos at ∷ starts_from (at + n) (drop (k + 1) p.arrays))) this
-          ∙ ap (λ ns. take k c.loop-k.starts ++ starts_from at ns) (sym (drop_more p.arrays k 0 there))
-          ∙ c.loop-k.invariant.1 p is,
+    let starts = c.loop-k.starts in
+    let before = total (take k ns) in
+    let there : k < length ns = omega (arith, ap length c.arrays-n-items.ensures ∙ length-nats ns, c.loop-k-test.true) in
+    let room : k < length starts = omega (arith, there, c.requires.room, c.loop-k.auto.starts) in
+    let more = total_more ns k there in
+    let few = few_words (row_p p) p c.requires.program in
+    let this = ap (λ s. get_or s k (pos 0)) c.arrays-n-items.ensures ∙ nats_at ns k there in
+    let at = to_z w64 c.loop-k.at-bits in
+    let left = starts_from (before + get_or ns k 0) (drop (k + 1) ns) in (
+      (added _ _ _ _ c.loop-k.invariant.0 this (omega (arith, more.1, few))).0 ∙ ap pos (sym more.0),
+      ap (λ n. take (k + 1) (set starts k at) ++ starts_from n (drop (k + 1) ns)) more.0
+          ∙ written_more starts left k at room
+          ∙ ap (λ z. take k starts ++ (z ∷ left)) c.loop-k.invariant.0
+          ∙ ap (λ ns. take k starts ++ starts_from before ns) (sym (drop_more ns k 0 there))
+          ∙ c.loop-k.invariant.1,
     )
 
 pub returns : goal.returns
-returns c p is =
-    let found = c.requires.program in
+returns c =
+    let ns = c.args.program.now.arrays in
     let k = c.loop-k.k in
-    let same : c.args.arrays ≡ length p.arrays = found.2 ∙ ap (λ p. length p.arrays) (one_program c.args.rows.now found.0 p found.1 is) in
-    sym (take_all k c.loop-k.starts (omega (arith, c.loop-k.auto.starts, c.requires.room, c.loop-k-test.false)))
-    ∙ sym (append-nil (take k c.loop-k.starts))
-    ∙ ap (λ ns. take k c.loop-k.starts ++ starts_from c.loop-k.at ns) (sym (drop_all k p.arrays (omega (arith, same, c.loop-k-test.false))))
-    ∙ c.loop-k.invariant.1 p is
+    let starts = c.loop-k.starts in
+    let long = ap length c.arrays-n-items.ensures ∙ length-nats ns in
+    let all : length ns ≤ k = omega (arith, long, c.loop-k-test.false) in
+    sym (take_all k starts (omega (arith, all, c.requires.room, c.loop-k.auto.starts)))
+    ∙ sym (append-nil (take k starts))
+    ∙ ap (λ r. take k starts ++ starts_from (total (take k ns)) r) (sym (drop_all k ns all))
+    ∙ c.loop-k.invariant.1

@@ -1,59 +1,64 @@
-use Rattle.std.proofs.Common.{◌≡◌, ◌+◌, ◌<◌, [], ◌∷◌, ◌++◌, length, take, drop, sym, refl, ap, ◌∙◌, arith, w64}
-use Rattle.std.proofs.lemmas.List.{append_assoc, append-nil, take_all, take_more_set, drop_all}
+use Rattle.std.proofs.Common.{◌≡◌, ◌+◌, ◌<◌, [], ◌∷◌, ◌++◌, length, take, set, sym, ap, ◌∙◌, refl, add_assoc, arith, w64, SFits, to_z, of_z, rules}
+use Rattle.std.proofs.lemmas.List.{append_assoc, append-nil, take_all, take_more_set}
 use Rattle.std.proofs.lemmas.Int.{to_z-of_z}
-use Rattle.program.proofs.Whole.{arrays_found}
-use Rattle.program.proofs.Loops.{next_is, step_at_ends}
-use Rattle.program.proofs.Walk.{walk_start, walk_more, walk_never, walk_step}
+use Rattle.program.specs.Reading.{width, widths}
+use Rattle.program.proofs.Walk.{turn, ahead_all, ahead_none, ends_few}
 use Rattle.table.specs.Rows.{row_t}
 use Rattle.table.specs.Licences.{licensed}
 use Rattle.machine.specs.Marks.{mark, marks_from}
 use Rattle.machine.proofs.marks.mark_steps.Goals as goal
 
-pub loop-k-init : goal.loop-k-init
-loop-k-init c =
-    let found = c.requires.program in
-    let few = arrays_found c.args.rows.now found.0 c.args.counts found.1 found.2 in
-    (omega (arith, few), walk_start c.args.rows.now c.args.counts, λ p t is e f q. refl)
+pub loop-place-init : goal.loop-place-init
+loop-place-init c =
+    let all = c.into_iter-place-iterator.ensures.into_iter_gives ∙ c.steps-place-items.ensures.all in
+    let arrays = ap (λ k. k.arrays) c.counts-counts.ensures.exact in
+    (ahead_all c.args.program.now _ all, rw (all, arrays) refl, λ t f q. rw (all, arrays) refl)
 
-pub unreachable-requires : goal.unreachable-requires
-unreachable-requires c =
-    let found = c.requires.program in
-    walk_never c.args.rows.now c.args.counts c.loop-k.at c.loop-k.k (omega arith) c.loop-k.invariant.1 found.0 found.1 found.2 _ c.in-Err.ensures
+pub new-requires : goal.new-requires
+new-requires c = omega (arith, c.loop-place.invariant.1, ends_few c.args.program.now c.steps-place-items.ensures.fine)
 
-pub loop-k-preserved : goal.loop-k-preserved
-loop-k-preserved c =
-    let s = c.args.rows.now in
-    let counts = c.args.counts in
-    let k = c.loop-k.k in
-    let at = c.loop-k.at in
-    let m = c.loop-k.marks in
-    let i = c.in-Ok.step in
-    let next = c.in-Ok.next in
-    let inv = c.loop-k.invariant in
-    let u = next_is counts s at i next c.in-Ok.ensures in
-    let ends = step_at_ends counts s at i u.0 in (
-      omega (arith, u.1, ends),
-      walk_more s counts at k (omega arith) inv.1 i next c.in-Ok.ensures,
-      λ p t is e f q.
-          let vars : counts.vars ≡ p.vars = ap (λ c. c.vars) e in
-          let here = walk_step s counts at k (omega arith) inv.1 p is e i next c.in-Ok.ensures in
-          let sure = c.licensed-sure.ensures p t is vars f (ap (λ v. row_t v t) vars ∙ q) here.0 in
-          let left = marks_from p t (k + 1) next (drop (k + 1) p.code) in
+pub overflow_add-at-in-loop-place : goal.overflow_add-at-in-loop-place
+overflow_add-at-in-loop-place c = omega (arith, c.loop-place.invariant.1, ends_few c.args.program.now c.steps-place-items.ensures.fine, ap widths c.in-Some.ensures.steps.0, c.width-at.ensures)
+
+pub loop-place-preserved : goal.loop-place-preserved
+loop-place-preserved c =
+    let p = c.args.program.now in
+    let k = c.in-Some.place.0 in
+    let i = c.in-Some.step in
+    let at = c.loop-place.at in
+    let m = c.loop-place.marks in
+    let after = c.next.new.self in
+    let gives = c.in-Some.ensures.steps in
+    let inv = c.loop-place.invariant in
+    let turns = turn p c.loop-place.place-iterator after (c.in-Some.place, i) inv.0 gives in
+    let room : k < length m = omega (arith, turns.there, c.requires, c.loop-place.auto.marks) in
+    let place : after.place ≡ k + 1 = gives.2 ∙ ap (λ n. n + 1) (sym gives.1) in
+    let vars = ap (λ k. k.vars) c.counts-counts.ensures.exact in (
+      turns.ahead,
+      ap (λ n. at + n + widths after.steps) c.width-at.ensures ∙ add_assoc at (width i) (widths after.steps) ∙ ap (λ is. at + widths is) (sym gives.0) ∙ inv.1,
+      λ t f q.
+          let sure = c.licensed-sure.ensures p t c.rows.ensures vars f (ap (λ v. row_t v t) vars ∙ q) turns.here in
           let this = mark (licensed p t k) at in
-          let room : k < length m = omega arith in
-          ap (λ r. r ++ left) (take_more_set m k _ room ∙ ap (λ z. take k m ++ z ∷ []) (to_z-of_z w64 c.mark.result (record { sfits = c.mark.type_inv }) ∙ c.mark.ensures ∙ ap (λ b. mark b at) sure))
+          let left = marks_from p t (k + 1) (at + width i) after.steps in
+          let fits : SFits w64 c.new.result.0 = search rules in
+          let written : to_z w64 (of_z w64 c.new.result.0) ≡ this = to_z-of_z w64 c.new.result.0 fits ∙ c.new.ensures ∙ ap (λ b. mark b at) sure in
+          ap (λ n. take n (set m k (to_z w64 (of_z w64 c.new.result.0))) ++ marks_from p t n (at + c.width-at.result) after.steps) place
+          ∙ ap (λ n. take (k + 1) (set m k (to_z w64 (of_z w64 c.new.result.0))) ++ marks_from p t (k + 1) (at + n) after.steps) c.width-at.ensures
+          ∙ ap (λ r. r ++ left) (take_more_set m k _ room ∙ ap (λ z. take k m ++ z ∷ []) written)
           ∙ append_assoc (take k m) (this ∷ []) left
-          ∙ ap (λ a. take k m ++ this ∷ marks_from p t (k + 1) a (drop (k + 1) p.code)) (sym u.1)
-          ∙ ap (λ is. take k m ++ marks_from p t k at is) (sym here.1)
-          ∙ inv.2 p t is e f q,
+          ∙ ap (λ k. take k m ++ (mark (licensed p t k) at ∷ marks_from p t (k + 1) (at + width i) after.steps)) gives.1
+          ∙ ap (λ is. take c.loop-place.place-iterator.place m ++ marks_from p t c.loop-place.place-iterator.place at is) (sym gives.0)
+          ∙ inv.2 t f q,
     )
 
 pub returns : goal.returns
-returns c p t is e f q =
-    let k = c.loop-k.k in
-    let m = c.loop-k.marks in
-    let steps : c.args.counts.steps ≡ length p.code = ap (λ c. c.steps) e in
+returns c t f q =
+    let p = c.args.program.now in
+    let m = c.loop-place.marks in
+    let ahead = c.loop-place.place-iterator in
+    let none = c.in-None.ensures.steps.0 in
+    let all = ahead_none p ahead c.loop-place.invariant.0 none in
     sym (append-nil m)
-    ∙ ap (λ r. r ++ []) (sym (take_all k m (omega (arith, c.loop-k-test.false))))
-    ∙ ap (λ is. take k m ++ marks_from p t k c.loop-k.at is) (sym (drop_all k p.code (omega (arith, steps, c.loop-k-test.false))))
-    ∙ c.loop-k.invariant.2 p t is e f q
+    ∙ ap (λ r. r ++ []) (sym (take_all ahead.place m (omega (arith, all, c.requires, c.loop-place.auto.marks))))
+    ∙ ap (λ is. take ahead.place m ++ marks_from p t ahead.place c.loop-place.at is) (sym none)
+    ∙ c.loop-place.invariant.2 t f q

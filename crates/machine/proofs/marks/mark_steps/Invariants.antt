@@ -1,8 +1,7 @@
-use Rattle.std.proofs.Common.{◌≡◌, ◌+◌, ◌≤◌, ◌++◌, length, take, drop}
-use Rattle.program.specs.Program.{Prog, counts_of}
-use Rattle.program.specs.Rows.{Program}
-use Rattle.program.specs.Reading.{first}
-use Rattle.program.proofs.Walk.{Walk}
+use Rattle.std.proofs.Common.{◌≡◌, ◌+◌, ◌++◌, take}
+use Rattle.program.specs.Program.{counts_of}
+use Rattle.program.specs.Reading.{first, widths}
+use Rattle.program.proofs.Walk.{AheadOf}
 use Rattle.table.specs.Tables.{Table}
 use Rattle.table.specs.Rows.{row_t}
 use Rattle.table.specs.Says.{Full}
@@ -10,8 +9,10 @@ use Rattle.machine.specs.Marks.{marks_from}
 use Rattle.machine.proofs.marks.mark_steps.Given as goal
 
 -- the marks that are written, with those of the steps that are left, are all of them
-abbrev pub invariant-loop-k : goal.invariant-loop-k
-invariant-loop-k l =
-    (l.at ≤ 19 + length l.rows)
-    × Walk l.rows l.counts l.at l.k
-    × ((p : Prog) (t : Table) → Program l.rows p → l.counts ≡ counts_of p → Full p t → row_t p.vars t ≡ l.table → take l.k l.marks ++ marks_from p t l.k l.at (drop l.k p.code) ≡ marks_from p t 0 (first l.counts) p.code)
+abbrev pub invariant-loop-place : goal.invariant-loop-place
+invariant-loop-place l =
+    let p = l.program in
+    let ahead = l.place-iterator in
+    AheadOf p ahead
+    × (l.at + widths ahead.steps ≡ first (counts_of p) + widths p.code)
+    × ((t : Table) → Full p t → row_t p.vars t ≡ l.table → take ahead.place l.marks ++ marks_from p t ahead.place l.at ahead.steps ≡ marks_from p t 0 (first (counts_of p)) p.code)
