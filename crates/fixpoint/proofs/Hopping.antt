@@ -7,20 +7,21 @@ use Rattle.program.specs.Program.{Prog, counts_of}
 use Rattle.program.specs.Rows.{Program}
 use Rattle.interval.specs.declared.Way.{Way}
 use Rattle.interval.specs.declared.Way.TheVariants.{Jump, Next}
-use Rattle.interval.specs.Ranges.{At, never, makes}
+use Rattle.interval.specs.Ranges.{At, never, within, makes}
 use Rattle.interval.specs.Boxes.{box_of}
 use Rattle.table.specs.Tables.{Table, at, words_of}
 use Rattle.table.specs.Rows.{width, wants, is_number, place_of}
 use Rattle.table.proofs.Loops.{place_known, place_never}
-use Rattle.fixpoint.specs.Hops.{after, sweep_from, through}
+use Rattle.fixpoint.specs.Hops.{after, sweep_from}
 use Rattle.table.specs.declared.Hop.{Hop}
-use Rattle.table.specs.Hops.{hops_from, IsHop}
+use Rattle.table.specs.Hops.{lands, hops_from, through, IsHop}
+use Rattle.table.proofs.Hopping.{Idle, through_ways}
 use Rattle.fixpoint.specs.Least.{Least, Sound}
 use Rattle.fixpoint.specs.Rounds.{Round, join_into, round_hop, round, room}
 use Rattle.fixpoint.specs.Ways.{Leads, rounded}
 use Rattle.fixpoint.specs.Joining.{table_in, Joined, RoundSays}
 use Rattle.fixpoint.proofs.Joins.{join_same}
-use Rattle.fixpoint.proofs.Sweeps.{round_sound, round_same, round_last}
+use Rattle.fixpoint.proofs.Sweeps.{round_sound, round_same, round_last, covered_stays}
 use Rattle.fixpoint.proofs.Room.{round_lowers}
 use Rattle.fixpoint.proofs.Places.{place_at}
 
@@ -57,10 +58,17 @@ hop_joined p h words c l l' y hop w e j b =
     ∙ ap (λ c. join_into h.to.0 (after words h.way h.step (at (table_in c l) h.from.0)) (record { table = table_in c l; changed = b })) e
     ∙ ap₂ (λ n w. join_into n (after w h.way h.step (at t h.from.0)) (record { table = t; changed = b })) hop.lands w
 
--- the hops that are left are those of the steps that are
-pub through_sweep : {A : Type 0} (f : ℕ → Step → Way → A → A) (n : ℕ) (is : List Step) (a : A) → through f (hops_from n is) a ≡ sweep_from f n is a
-through_sweep f n [] a = refl
-through_sweep f n (i ∷ is) a = through_sweep f (n + 1) is (f n i Next (f n i Jump a))
+-- the hops of steps are all that a sweep over them does, if it does nothing for a hop that makes nothing
+pub through_sweep : {A : Type 0} (f : ℕ → Step → Way → A → A) (idle : (n : ℕ) (i : Step) (w : Way) (a : A) → Idle i w → f n i w a ≡ a) (n : ℕ) (is : List Step) (a : A) → through f (hops_from n is) a ≡ sweep_from f n is a
+through_sweep f idle n [] a = refl
+through_sweep f idle n (i ∷ is) a = through_ways f idle n i (hops_from (n + 1) is) a ∙ through_sweep f idle (n + 1) is (f n i Next (f n i Jump a))
+
+pub after_idle : (n : ℕ) (i : Step) (w : Way) (a : At) → Idle i w → after n w i a ≡ never
+after_idle n i w never e = refl
+after_idle n i w (within b) e = e n b
+
+pub round_idle : (p : Prog) (n : ℕ) (i : Step) (w : Way) (r : Round) → Idle i w → round_hop p n i w r ≡ r
+round_idle p n i w r e = ap (λ a. join_into (lands n i w) a r) (after_idle (words_of p i) i w (at r.table n) e) ∙ covered_stays (lands n i w) never r tt
 
 -- what follows of a round from what it is
 pub round_says : (s : List ℤ) (p : Prog) (t t' : Table) (y : Bool) → Program s p → record { table = t'; changed = y } ≡ round p t → RoundSays p t t' y

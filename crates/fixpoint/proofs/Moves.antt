@@ -11,20 +11,21 @@ use Rattle.interval.specs.Ranges.{Box, At, never, within, inside1}
 use Rattle.interval.proofs.Order.{order}
 use Rattle.table.specs.Tables.{Table, at, words_of}
 use Rattle.table.specs.declared.Hop.{Hop}
-use Rattle.table.specs.Hops.{IsHop}
+use Rattle.table.specs.Hops.{lands, IsHop}
+use Rattle.table.proofs.Hopping.{Idle}
+use Rattle.program.specs.declared.Step.{Step}
+use Rattle.interval.specs.declared.Way.{Way}
+use mathlib.Core.Bool.{or-false}
+use Rattle.fixpoint.proofs.Hopping.{after_idle}
 use Rattle.fixpoint.specs.Hops.{after}
 use Rattle.fixpoint.specs.declared.guess.Confirmed.{Confirmed}
-use Rattle.fixpoint.specs.Confirming.{moved_at, wider_box, wider_at, confirm_at, confirm_hop, confirm_sweep, sweeps_of, reached, Confirms}
+use Rattle.fixpoint.specs.Confirming.{Confirming, moved_at, wider_box, wider_at, confirm_at, confirm_hop, confirm_sweep, sweeps_of, reached, Confirms}
 use Rattle.fixpoint.specs.Ways.{Leads, confirmed}
 use Rattle.fixpoint.specs.Joining.{table_in}
 use Rattle.fixpoint.specs.Moving.{Moved, moved_by, ConfirmSays}
 use Rattle.fixpoint.proofs.Ways.{guess_sound, guess_no_more, way_spent}
 
 -- where a hop makes nothing, of the guess or of the table, nothing moves
-pub no_goal : (mm ms s : At) → moved_at never mm ms s ≡ s
-no_goal mm ms never = refl
-no_goal mm ms (within s) = refl
-
 pub no_made : (m ms s : At) → moved_at m never ms s ≡ s
 no_made m ms never = refl
 no_made never ms (within s) = refl
@@ -64,6 +65,13 @@ hop_moved p m h words c l l' y hop w e j b =
     ∙ moved_is c h.to.0 (moved_by words m h (table_in c l)) l l' y j b
     ∙ ap (λ c. confirm_at h.to.0 (moved_by words m h (table_in c l)) (record { table = table_in c l; moved = b })) e
     ∙ ap₂ (λ n w. confirm_at n (moved_at (at m n) (after w h.way h.step (at m h.from.0)) (after w h.way h.step (at s h.from.0)) (at s n)) (record { table = s; moved = b })) hop.lands w
+
+pub confirm_idle : (p : Prog) (m : Table) (n : ℕ) (i : Step) (w : Way) (c : Confirming) → Idle i w → confirm_hop p m n i w c ≡ c
+confirm_idle p m n i w c e =
+    let to = lands n i w in
+    let here = at c.table to in
+    let same : moved_at (at m to) (after (words_of p i) w i (at m n)) (after (words_of p i) w i (at c.table n)) here ≡ here = ap (λ a. moved_at (at m to) a (after (words_of p i) w i (at c.table n)) here) (after_idle (words_of p i) i w (at m n) e) ∙ no_made (at m to) (after (words_of p i) w i (at c.table n)) here in
+    ap (λ a. confirm_at to a c) same ∙ ap₂ (λ t y. record { table = t; moved = y }) (set-get_or c.table to never) (ap (λ y. c.moved || y) (wider_self here) ∙ or-false c.moved)
 
 -- one more sweep, at the end
 sweeps_suc : (k : ℕ) (p : Prog) (m s : Table) → sweeps_of (suc k) p m s ≡ (confirm_sweep p m (sweeps_of k p m s)).table

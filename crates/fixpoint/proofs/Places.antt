@@ -3,7 +3,7 @@ use Rattle.std.proofs.Common.{◌≡◌, ℕ, zero, suc, ◌+◌, ◌-◌, ◌*�
 use lib.Seq.{take-append-add}
 use borrow.Rule.Slice.PartMut.{put_mid}
 use Rattle.std.specs.Option.{option_map}
-use Rattle.std.proofs.lemmas.List.{append_assoc, append-nil, drop_all, drop-drop, drop_at}
+use Rattle.std.proofs.lemmas.List.{append_assoc, append-nil, length-take-le, length-drop, drop_all, drop-drop, drop_at}
 use Rattle.std.proofs.lemmas.Slice.{between_is, between-put_mid, take-put_mid_below, drop-put_mid}
 use Rattle.program.specs.declared.Counts.{Counts}
 use Rattle.interval.specs.Ranges.{At}
@@ -19,10 +19,6 @@ use Rattle.fixpoint.specs.Joining.{table_in, Writes}
 pub row_kept : (row ys : List ℤ) → 0 < length row → put_mid 1 (length row - 1) row ys ≡ get_or row 0 (pos 0) ∷ ys
 row_kept [] ys l = absurd (omega arith)
 row_kept (z ∷ s) ys l = ap (λ x. z ∷ x) (ap (λ x. ys ++ x) (drop_all (length (z ∷ s) - 1) s (omega arith)) ∙ append-nil ys)
-
-pub row_new : (row row' ys : List ℤ) → 0 < length row → row' ≡ set row 0 (pos 1) → put_mid 1 (length row' - 1) row' ys ≡ pos 1 ∷ ys
-row_new [] row' ys l e = absurd (omega arith)
-row_new (z ∷ s) row' ys l e = ap (λ r. put_mid 1 (length r - 1) r ys) e ∙ row_kept (pos 1 ∷ s) ys (omega arith)
 
 -- the table's places from the a-th number on depend on nothing before it
 same_from : (k a m : ℕ) (s u : List ℤ) → drop a s ≡ drop a u → table_of k a s m ≡ table_of k a u m
@@ -93,16 +89,28 @@ module _ (c : Counts) (n : ℕ) (l : List ℤ) (long : length l ≡ wants c) (pl
   pub row_within : n * width c.vars + width c.vars ≤ length l
   row_within = row_there n (c.steps + 1) (width c.vars) (length l) (omega arith) (omega arith)
 
-  -- a row that is written
-  module _ (row : List ℤ) (whole : length row ≡ width c.vars) (j : ℕ) (wide : j ≡ width c.vars) where
-    pub put_table : table_in c (put_mid (n * width c.vars) j l row) ≡ set (table_in c l) n (place_of row)
-    put_table =
-        ap₂ (λ b j. table_in c (put_mid b j l row)) (sym (zero-add (n * width c.vars))) wide
-        ∙ put_from c.vars l row whole 0 n (c.steps + 1) (omega arith) (let h = row_within in omega arith)
+  -- the row that stands in these bounds, and one that is written there
+  module _ (start end : ℕ) (starts : start ≡ n * width c.vars) (ends : end ≡ n * width c.vars + width c.vars) where
+    pub place_here : place_of (take (end - start) (drop start l)) ≡ at (table_in c l) n
+    place_here = let wide : end - start ≡ width c.vars = omega (arith, starts, ends) in ap₂ (λ j b. place_of (take j (drop b l))) wide starts ∙ sym place_at
 
-    pub put_writes : is_number 1 (get_or row 0 (pos 0)) ≡ true → Writes c l (put_mid (n * width c.vars) j l row)
-    put_writes known e =
-        ap (row_t c.vars) put_table
-        ∙ rows_set c.vars (table_in c l) n (place_of row) (table_of_wide c.vars 0 l (c.steps + 1) (omega arith)) (let h = length-table_of c.vars 0 l (c.steps + 1) in omega arith)
-        ∙ ap₂ (put_mid (n * width c.vars) (width c.vars)) e (row_was c.vars 0 row whole (row_fine row known))
-        ∙ ap (λ j. put_mid (n * width c.vars) j l row) (sym wide)
+    module _ (row : List ℤ) (whole : length row ≡ length (take (end - start) (drop start l))) where
+      wide : end - start ≡ width c.vars
+      wide = omega (arith, starts, ends)
+
+      long_row : length row ≡ width c.vars
+      long_row = let h = row_within in whole ∙ length-take-le (end - start) (drop start l) (omega (arith, length-drop start l, starts, ends)) ∙ wide
+
+      pub put_table : table_in c (put_mid start (end - start) l row) ≡ set (table_in c l) n (place_of row)
+      put_table =
+          ap₂ (λ b j. table_in c (put_mid b j l row)) (starts ∙ sym (zero-add (n * width c.vars))) wide
+          ∙ put_from c.vars l row long_row 0 n (c.steps + 1) (omega arith) (let h = row_within in omega arith)
+
+      pub put_writes : is_number 1 (get_or row 0 (pos 0)) ≡ true → Writes c l (put_mid start (end - start) l row)
+      put_writes known e =
+          ap (row_t c.vars) put_table
+          ∙ rows_set c.vars (table_in c l) n (place_of row) (table_of_wide c.vars 0 l (c.steps + 1) (omega arith)) (let h = length-table_of c.vars 0 l (c.steps + 1) in omega arith)
+          ∙ ap₂ (put_mid (n * width c.vars) (width c.vars)) e (row_was c.vars 0 row long_row (row_fine row known))
+          ∙ ap₂ (λ b j. put_mid b j l row) (sym starts) (sym wide)
+
+pub ruleset places = (place_at, row_within, place_here, put_table, put_writes)

@@ -1,57 +1,17 @@
 -- What looking whether a guess is reached goes by.
-use Rattle.std.proofs.Common.{◌≡◌, ℕ, ◌+◌, ◌-◌, ◌*◌, ◌<◌, ◌≤◌, Bool, true, false, cond, not, ◌&&◌, List, [], ◌∷◌, length, get_or, take, drop, ℤ, pos, sym, refl, ap, ◌∙◌, ap₂, arith}
-use Rattle.std.proofs.lemmas.List.{drop_all, drop_more, take_rest}
-use Rattle.program.specs.declared.Counts.{Counts}
-use Rattle.interval.specs.Ranges.{Box, At, never, within, any}
-use Rattle.interval.specs.Boxes.{box_of}
+use Rattle.std.proofs.Common.{◌≡◌, ℕ, ◌+◌, ◌<◌, ◌≤◌, true, ◌&&◌, length, drop, refl}
+use Rattle.std.proofs.lemmas.List.{drop_all, drop_more}
+use Rattle.interval.specs.Ranges.{never}
 use Rattle.table.specs.Tables.{Table, at}
-use Rattle.table.specs.Rows.{width, wants, is_number, place_of}
 use Rattle.table.proofs.Rows.{length-table_of}
-use Rattle.fixpoint.specs.Confirming.{reached1, reached_box, reached_at, reached}
-use Rattle.fixpoint.specs.Joining.{table_in}
-use Rattle.fixpoint.proofs.Places.{place_at}
-
-abbrev row_in : Counts → List ℤ → ℕ → List ℤ
-row_in c l n = take (width c.vars) (drop (n * width c.vars) l)
-
--- one more variable
-pub box_more : (k : ℕ) (b m s : Box) → k < length b → k < length m → k < length s → reached_box (drop k b) (drop k m) (drop k s) ≡ (reached1 (get_or b k any) (get_or m k any) (get_or s k any) && reached_box (drop (k + 1) b) (drop (k + 1) m) (drop (k + 1) s))
-box_more k b m s l lm ls = rw (drop_more b k any l, drop_more m k any lm, drop_more s k any ls) refl
-
-pub box_done : (k : ℕ) (b m s : Box) → length b ≤ k → length m ≤ k → length s ≤ k → reached_box (drop k b) (drop k m) (drop k s) ≡ true
-box_done k b m s l lm ls = rw (drop_all k b l, drop_all k m lm, drop_all k s ls) refl
+use Rattle.fixpoint.specs.Confirming.{reached_at, reached}
+use Rattle.fixpoint.proofs.Places.{place_at, row_within}
 
 -- one more place
 pub place_more : (n : ℕ) (t m s : Table) → n < length t → n < length m → n < length s → reached (drop n t) (drop n m) (drop n s) ≡ (reached_at (at t n) (at m n) (at s n) && reached (drop (n + 1) t) (drop (n + 1) m) (drop (n + 1) s))
 place_more n t m s l lm ls = rw (drop_more t n never l, drop_more m n never lm, drop_more s n never ls) refl
 
--- what the rows of a place say, and the places behind it
-pub table_more : (c : Counts) (n : ℕ) (l g v row goal moved : List ℤ) → length l ≡ wants c → length g ≡ wants c → length v ≡ wants c → n ≤ c.steps → row ≡ row_in c l n → goal ≡ row_in c g n → moved ≡ row_in c v n → (y : Bool) → y ≡ reached_at (place_of row) (place_of goal) (place_of moved) → (y && reached (drop (n + 1) (table_in c l)) (drop (n + 1) (table_in c g)) (drop (n + 1) (table_in c v))) ≡ reached (drop n (table_in c l)) (drop n (table_in c g)) (drop n (table_in c v))
-table_more c n l g v row goal moved long long-g long-v here e f h y is =
-    ap (λ y. y && reached (drop (n + 1) (table_in c l)) (drop (n + 1) (table_in c g)) (drop (n + 1) (table_in c v))) (is ∙ there)
-    ∙ sym (place_more n (table_in c l) (table_in c g) (table_in c v) (within_table l) (within_table g) (within_table v))
-  where
-    within_table : (l : List ℤ) → n < length (table_in c l)
-    within_table l = let k = length-table_of c.vars 0 l (c.steps + 1) in omega arith
-
-    there : reached_at (place_of row) (place_of goal) (place_of moved) ≡ reached_at (at (table_in c l) n) (at (table_in c g) n) (at (table_in c v) n)
-    there = rw (e, f, h, place_at c n l long here, place_at c n g long-g here, place_at c n v long-v here) refl
-
 pub place_done : (n : ℕ) (t m s : Table) → length t ≤ n → length m ≤ n → length s ≤ n → reached (drop n t) (drop n m) (drop n s) ≡ true
 place_done n t m s l lm ls = rw (drop_all n t l, drop_all n m lm, drop_all n s ls) refl
 
--- rows, by their first numbers
-abbrev pub flagged : Bool → List ℤ → At
-flagged t row = cond t (within (box_of (take (length row - 1) (drop 1 row)))) never
-
-place_flagged : (row : List ℤ) (t : Bool) → 0 < length row → is_number 1 (get_or row 0 (pos 0)) ≡ t → place_of row ≡ flagged t row
-place_flagged [] t l e = absurd (omega arith)
-place_flagged (z ∷ s) t l e = ap₂ (λ t r. cond t (within (box_of r)) never) e (sym (take_rest (z ∷ s) 1))
-
-pub rows_flagged : (b m s : List ℤ) (x y z : Bool) → 0 < length b → length m ≡ length b → length s ≡ length b → is_number 1 (get_or b 0 (pos 0)) ≡ x → is_number 1 (get_or m 0 (pos 0)) ≡ y → is_number 1 (get_or s 0 (pos 0)) ≡ z → reached_at (place_of b) (place_of m) (place_of s) ≡ reached_at (flagged x b) (flagged y m) (flagged z s)
-rows_flagged b m s x y z l lm ls e f g = rw (place_flagged b x l e, place_flagged m y (omega arith) f, place_flagged s z (omega arith) g) refl
-
-pub not_flagged : (x y : Bool) (m s : List ℤ) → (not x && not y) ≡ reached_at never (flagged x m) (flagged y s)
-not_flagged true y m s = refl
-not_flagged false true m s = refl
-not_flagged false false m s = refl
+pub ruleset reaches = (place_at, row_within, length-table_of, place_more, place_done)

@@ -5,7 +5,6 @@ use Rattle.program.specs.Program.{Prog}
 use Rattle.interval.specs.declared.Way.{Way}
 use Rattle.interval.specs.declared.Way.TheVariants.{Jump, Next}
 use Rattle.interval.specs.Ranges.{At, never, within, makes}
-use Rattle.table.specs.declared.Hop.{Hop}
 use Rattle.table.specs.Tables.{Table, at, words_of}
 
 -- what a step makes of what is known at its place
@@ -24,8 +23,3 @@ sweep_from f n (i ∷ is) a = sweep_from f (n + 1) is (f n i Next (f n i Jump a)
 
 abbrev pub sweep : {A : Type 0} → (ℕ → Step → Way → A → A) → Prog → A → A
 sweep f p a = sweep_from f 0 p.code a
-
--- these hops, each done to what the last one left
-abbrev pub through : {A : Type 0} → (ℕ → Step → Way → A → A) → List Hop → A → A
-through f [] a = a
-through f (h ∷ hs) a = through f hs (f h.from.0 h.step h.way a)

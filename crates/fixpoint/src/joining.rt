@@ -20,15 +20,15 @@ fn join_range(numbers: &mut [i64], x: Var, q: Range) -> bool
     !q.inside(r)
 }
 
+#[tactic(auto, using(crate::proofs::Boxes::joins))]
 fn join_box(numbers: &mut [i64], made: &[i64]) -> bool
     requires { length numbers.old ≡ length made.now }
     ensures joined { box_of numbers.new ≡ join_box (box_of numbers.old) (box_of made.now) }
     ensures changed { result ≡ not (covers_box (box_of made.now) (box_of numbers.old)) }
 {
     let mut changed = false;
-    for k in 0..made.len() / 2 {
-        let x = Var(k);
-        changed = changed | join_range(numbers, x, interval::range_at(made, x));
+    for (k, q) in interval::ranges(made).enumerate() {
+        changed |= join_range(numbers, Var(k), q);
     }
     changed
 }
@@ -41,6 +41,7 @@ pub(crate) fn set_known(row: &mut [i64])
     row[0] = 1;
 }
 
+#[tactic(auto, using(crate::proofs::Places::row_kept))]
 fn join_row(row: &mut [i64], made: &[i64]) -> bool
     requires { length row.old ≡ length made.now + 1 }
     ensures joined { place_of row.new ≡ join_at (place_of row.old) (within (box_of made.now)) }
@@ -55,6 +56,7 @@ fn join_row(row: &mut [i64], made: &[i64]) -> bool
     join_box(&mut row[1..], made)
 }
 
+#[tactic(auto, using(crate::proofs::Places::places))]
 pub fn join_place(table: &mut [i64], counts: Counts, n: usize, made: &[i64]) -> bool
     requires few { counts.vars ≤ 64 }
     requires long { length table.old ≡ wants counts }
@@ -63,7 +65,5 @@ pub fn join_place(table: &mut [i64], counts: Counts, n: usize, made: &[i64]) -> 
     requires whole { length made.now ≡ 2 * counts.vars }
     ensures { Joined counts n (within (box_of made.now)) table.old table.new result }
 {
-    let width = 1 + 2 * counts.vars;
-    let start = n * width;
-    join_row(&mut table[start..start + width], made)
+    join_row(&mut table[table::row_bounds(counts.vars, n)], made)
 }

@@ -20,10 +20,9 @@ fn note_range(notes: &mut [i64], x: Var, r: Range, made: Range, hop: i64) {
 }
 
 fn note_box(notes: &mut [i64], numbers: &[i64], made: &[i64], hop: i64) {
-    for k in 0..made.len() / 2 {
-        let x = Var(k);
-        let r = interval::range_at(numbers, x);
-        note_range(notes, x, r, interval::range_at(made, x), hop);
+    let sides = interval::ranges(numbers).zip(interval::ranges(made));
+    for (k, (r, q)) in sides.enumerate() {
+        note_range(notes, Var(k), r, q, hop);
     }
 }
 
@@ -44,7 +43,6 @@ pub(crate) fn note_place(
     if !table::is_known(row) {
         return;
     }
-    let width = 1 + 2 * vars;
-    let start = n * width;
-    note_box(&mut notes[start + 1..start + width], &row[1..], made, hop);
+    let notes = &mut notes[table::row_bounds(vars, n)];
+    note_box(&mut notes[1..], &row[1..], made, hop);
 }

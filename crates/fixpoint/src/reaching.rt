@@ -1,57 +1,35 @@
 // Whether each end has reached the guess or moved towards it.
 
-ghost use Rattle.std.specs.Prelude.{◌≡◌, ◌<◌, ◌≤◌, not, ◌&&◌, ◌||◌, length, pos, slice_index_or};
-ghost use Rattle.number.specs.Numbers.{le_z, less_z};
+ghost use Rattle.std.specs.Prelude.{◌≡◌, ◌<◌, ◌≤◌, length};
 ghost use Rattle.interval.specs.Boxes.{box_of};
-ghost use Rattle.table.specs.Rows.{wants, is_number, place_of};
+ghost use Rattle.table.specs.Rows.{wants, place_of};
 ghost use Rattle.fixpoint.specs.Confirming.{reached1, reached_box, reached_at, reached};
 ghost use Rattle.fixpoint.specs.Joining.{table_in};
 
 use interval::Range;
-use program::{Counts, Var};
-
-fn lower_reached(b: Range, guess: Range, moved: Range) -> bool
-    ensures { result ≡ (le_z moved.lo guess.lo || less_z moved.lo b.lo) }
-{
-    moved.lo <= guess.lo || moved.lo < b.lo
-}
-
-fn upper_reached(b: Range, guess: Range, moved: Range) -> bool
-    ensures { result ≡ (le_z guess.hi moved.hi || less_z b.hi moved.hi) }
-{
-    guess.hi <= moved.hi || b.hi < moved.hi
-}
+use program::Counts;
 
 fn reached_range(b: Range, guess: Range, moved: Range) -> bool
     ensures { result ≡ reached1 b guess moved }
 {
-    b.inside(guess) && (lower_reached(b, guess, moved) && upper_reached(b, guess, moved))
+    b.inside(guess)
+        && (moved.lo <= guess.lo || moved.lo < b.lo)
+        && (guess.hi <= moved.hi || b.hi < moved.hi)
 }
 
+#[tactic(auto, using(interval::proofs::Pairs::pairs))]
 fn reached_box(b: &[i64], guess: &[i64], moved: &[i64]) -> bool
     requires guess { length guess.now ≡ length b.now }
     requires moved { length moved.now ≡ length b.now }
     ensures { result ≡ reached_box (box_of b.now) (box_of guess.now) (box_of moved.now) }
 {
-    for k in 0..b.len() / 2 {
-        let x = Var(k);
-        let r = interval::range_at(b, x);
-        let g = interval::range_at(guess, x);
-        let m = interval::range_at(moved, x);
+    let sides = interval::ranges(guess).zip(interval::ranges(moved));
+    for (r, (g, m)) in interval::ranges(b).zip(sides) {
         if !reached_range(r, g, m) {
             return false;
         }
     }
     true
-}
-
-// Whether nothing comes to the place of either row.
-fn unknown(guess: &[i64], moved: &[i64]) -> bool
-    requires guess { 0 < length guess.now }
-    requires moved { 0 < length moved.now }
-    ensures { result ≡ (not (is_number 1 (slice_index_or guess.now 0 (pos 0))) && not (is_number 1 (slice_index_or moved.now 0 (pos 0)))) }
-{
-    !table::is_known(guess) && !table::is_known(moved)
 }
 
 fn reached_row(b: &[i64], guess: &[i64], moved: &[i64]) -> bool
@@ -60,18 +38,18 @@ fn reached_row(b: &[i64], guess: &[i64], moved: &[i64]) -> bool
     requires moved { length moved.now ≡ length b.now }
     ensures { result ≡ reached_at (place_of b.now) (place_of guess.now) (place_of moved.now) }
 {
-    if !table::is_known(b) {
-        return unknown(guess, moved);
+    match (
+        table::is_known(b),
+        table::is_known(guess),
+        table::is_known(moved),
+    ) {
+        (true, true, true) => reached_box(&b[1..], &guess[1..], &moved[1..]),
+        (false, false, false) => true,
+        _ => false,
     }
-    if !table::is_known(guess) {
-        return false;
-    }
-    if !table::is_known(moved) {
-        return false;
-    }
-    reached_box(&b[1..], &guess[1..], &moved[1..])
 }
 
+#[tactic(auto, using(crate::proofs::Reaches::reaches))]
 pub(crate) fn reached(table: &[i64], counts: Counts, guess: &[i64], moved: &[i64]) -> bool
     requires few { counts.vars ≤ 64 }
     requires small { counts.steps ≤ 4096 }
@@ -80,7 +58,7 @@ pub(crate) fn reached(table: &[i64], counts: Counts, guess: &[i64], moved: &[i64
     requires moved { length moved.now ≡ wants counts }
     ensures { result ≡ reached (table_in counts table.now) (table_in counts guess.now) (table_in counts moved.now) }
 {
-    for n in 0..counts.steps + 1 {
+    for n in 0..=counts.steps {
         let row = table::row_of(table, counts.vars, n);
         let goal = table::row_of(guess, counts.vars, n);
         let now = table::row_of(moved, counts.vars, n);

@@ -7,6 +7,7 @@ use Rattle.interval.specs.declared.Range.{Range}
 use Rattle.interval.specs.Ranges.{Box, At, never, within, join, inside1, Inside, AtLeast}
 use Rattle.interval.proofs.Order.{order}
 use Rattle.table.specs.Tables.{Table, at}
+use Rattle.table.proofs.Rows.{length-table_of}
 use Rattle.fixpoint.specs.Rounds.{join_box, join_at}
 
 -- joining what contains it
@@ -55,3 +56,5 @@ mixed_more n m t u u' e l h is next =
 -- and all of them
 pub mixed_all : (n : ℕ) (m t : Table) → length m ≡ length t → length t ≤ n → mixed n m t ≡ m
 mixed_all n m t e l = ap₂ (λ x y. x ++ y) (take_all n m (omega arith)) (drop_all n t l) ∙ append-nil m
+
+pub ruleset mixes = (length-table_of, mixed_more, mixed_all)

@@ -6,13 +6,7 @@ ghost use Rattle.std.specs.Prelude.{◌≡◌, length};
 pub(crate) fn widened(table: &[i64], guess: &[i64]) -> u64
     requires { length guess.now ≡ length table.now }
 {
-    let mut ends = 0u64;
-    for k in 0..table.len() {
-        if guess[k] != table[k] {
-            ends = ends.saturating_add(1);
-        }
-    }
-    ends
+    table.iter().zip(guess).filter(|(t, g)| t != g).count() as u64
 }
 
 // Takes out the ends that the guess widens and that are in `moved` where they are in the table.
@@ -21,10 +15,11 @@ pub(crate) fn drop_unmoved(table: &[i64], guess: &mut [i64], notes: &mut [i64], 
     requires notes { length notes.old ≡ length table.now }
     requires moved { length moved.now ≡ length table.now }
 {
-    for k in 0..table.len() {
-        if guess[k] != table[k] && moved[k] == table[k] {
-            guess[k] = table[k];
-            notes[k] = 0;
+    let ends = guess.iter_mut().zip(notes);
+    for ((g, note), (t, m)) in ends.zip(table.iter().zip(moved)) {
+        if g != t && m == t {
+            *g = *t;
+            *note = 0;
         }
     }
 }

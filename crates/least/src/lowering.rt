@@ -26,10 +26,8 @@ fn lower_range(guess: &mut [i64], x: Var, back: Range, note: Range, hop: i64) ->
 fn lower_box(guess: &mut [i64], table: &[i64], made: &[i64], notes: &[i64], hop: i64) -> bool {
     let mut changed = false;
     let sides = interval::ranges(made).zip(interval::ranges(notes));
-    for (k, (q, note)) in sides.enumerate() {
-        let x = Var(k);
-        let back = interval::range_at(table, x).join(q);
-        changed |= lower_range(guess, x, back, note, hop);
+    for (k, (t, (q, note))) in interval::ranges(table).zip(sides).enumerate() {
+        changed |= lower_range(guess, Var(k), t.join(q), note, hop);
     }
     changed
 }
@@ -50,15 +48,8 @@ fn lower_place(
 {
     let row = table::row_of(table, vars, n);
     let note = table::row_of(notes, vars, n);
-    let width = 1 + 2 * vars;
-    let start = n * width;
-    lower_box(
-        &mut guess[start + 1..start + width],
-        &row[1..],
-        made,
-        &note[1..],
-        hop,
-    )
+    let ends = &mut guess[table::row_bounds(vars, n)];
+    lower_box(&mut ends[1..], &row[1..], made, &note[1..], hop)
 }
 
 fn lower_hop(

@@ -7,9 +7,8 @@ use program::{Counts, Var};
 
 // Raises each end that some hop has widened, by its notes.
 fn raise_box(guess: &mut [i64], notes: &[i64]) {
-    for k in 0..notes.len() / 2 {
+    for (k, note) in interval::ranges(notes).enumerate() {
         let x = Var(k);
-        let note = interval::range_at(notes, x);
         let mut r = interval::range_at(guess, x);
         if note.lo != 0 {
             r.lo = i64::MIN;
@@ -27,18 +26,18 @@ fn raise_place(guess: &mut [i64], vars: usize, n: usize, notes: &[i64])
     requires notes { n * width vars + width vars ≤ length notes.now }
 {
     let row = table::row_of(notes, vars, n);
-    let width = 1 + 2 * vars;
-    let start = n * width;
-    raise_box(&mut guess[start + 1..start + width], &row[1..]);
+    let ends = &mut guess[table::row_bounds(vars, n)];
+    raise_box(&mut ends[1..], &row[1..]);
 }
 
+#[tactic(auto, using(fixpoint::proofs::Places::row_within))]
 pub(crate) fn raise(guess: &mut [i64], counts: Counts, notes: &[i64])
     requires few { counts.vars ≤ 64 }
     requires small { counts.steps ≤ 4096 }
     requires guess { length guess.old ≡ wants counts }
     requires notes { length notes.now ≡ wants counts }
 {
-    for n in 0..counts.steps + 1 {
+    for n in 0..=counts.steps {
         raise_place(guess, counts.vars, n, notes);
     }
 }

@@ -10,6 +10,7 @@ ghost use Rattle.fixpoint.specs.Joining.{table_in, Writes};
 use program::Counts;
 
 // Joins a place of the guess into the table.
+#[tactic(auto, using(fixpoint::proofs::Places::places, fixpoint::proofs::Hopping::nothing_joined))]
 fn take_place(table: &mut [i64], counts: Counts, n: usize, guess: &[i64])
     requires few { counts.vars ≤ 64 }
     requires long { length table.old ≡ wants counts }
@@ -26,6 +27,7 @@ fn take_place(table: &mut [i64], counts: Counts, n: usize, guess: &[i64])
 }
 
 // The table becomes the guess, which contains it and comes to the same places.
+#[tactic(auto, using(crate::proofs::Mixed::mixes))]
 pub(crate) fn take_over(table: &mut [i64], counts: Counts, guess: &[i64])
     requires few { counts.vars ≤ 64 }
     requires small { counts.steps ≤ 4096 }
@@ -34,6 +36,7 @@ pub(crate) fn take_over(table: &mut [i64], counts: Counts, guess: &[i64])
     ensures taken { Over (table_in counts table.old) (table_in counts guess.now) → table_in counts table.new ≡ table_in counts guess.now }
     ensures writes { Writes counts table.old table.new }
 {
+    // Not `0..=counts.steps`, which wants a proof of its last place besides.
     for n in 0..counts.steps + 1 {
         take_place(table, counts, n, guess);
     }

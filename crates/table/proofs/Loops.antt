@@ -1,10 +1,11 @@
 -- What the loops over a table's rows go by.
-use Rattle.std.proofs.Common.{◌≡◌, ℕ, zero, suc, ◌+◌, ◌-◌, ◌*◌, ◌<◌, ◌≤◌, true, false, cond, not, Bool, List, [], ◌∷◌, length, get_or, take, drop, replicate, ℤ, pos, is_some, is_ok, Some, None, Option, Ok, Err, Result, sym, refl, ap, ◌∙◌, ap₂, add_assoc, add-zero, mul-le-mul_right, add-mul, one-mul, add-one-le, arith}
+use Rattle.std.proofs.Common.{◌≡◌, ℕ, zero, suc, ◌+◌, ◌-◌, ◌*◌, ◌<◌, ◌≤◌, true, false, cond, not, Bool, List, [], ◌∷◌, ◌++◌, length, get_or, take, drop, replicate, ℤ, pos, is_some, is_ok, Some, None, Option, Ok, Err, Result, sym, refl, ap, ◌∙◌, ap₂, add_assoc, add-zero, mul-le-mul_right, add-mul, one-mul, add-one-le, arith}
 use Rattle.std.specs.Option.{option_map}
 use Rattle.std.specs.List.{position, position_from}
 use Rattle.std.proofs.lemmas.Iterator.Adapters.{position_from-zero}
 use Rattle.std.proofs.lemmas.Bool.{false≢true, true≢false}
 use Rattle.program.specs.declared.Step.{Step}
+use Rattle.program.specs.declared.Step.TheVariants.{Set, Add, Sub, Mul, Load, Store, Ask, Show, Go, Less, Stop}
 use Rattle.interval.specs.declared.Way.TheVariants.{Jump, Next}
 use Rattle.std.proofs.lemmas.List.{take_rest}
 use Rattle.interval.specs.Ranges.{Box, At, never, within, only}
@@ -14,9 +15,9 @@ use Rattle.table.specs.declared.fault.Fault.TheVariants.{Flag, Blank}
 use Rattle.table.specs.Tables.{zeros, target, words_of}
 use Rattle.table.specs.Rows.{width, is_number, place_of, place_in}
 use Rattle.table.specs.declared.hops.Hop.{Hop}
-use Rattle.table.specs.Hops.{hop, hops_from}
+use Rattle.table.specs.Hops.{ways, hops_from}
 use Rattle.program.specs.Program.{Prog}
-use Rattle.table.specs.Looking.{or_else, not_zero, row_fault, rows_fault, known, way_miss, hop_fault, steps_fault, unless}
+use Rattle.table.specs.Looking.{or_else, not_zero, row_fault, rows_fault, known, way_miss, hop_fault, step_fault, steps_fault, unless}
 
 -- the first number that isn't 0, as the code finds it
 abbrev nonzero : ℤ → Bool
@@ -92,19 +93,38 @@ abbrev pub hops_fault : Prog → List ℤ → List Hop → Option Fault
 hops_fault p s [] = None
 hops_fault p s (h ∷ hs) = or_else (hop_fault (words_of p h.step) p.vars s h) (hops_fault p s hs)
 
+in_turn : {A : Type 0} (x y z : Option A) → or_else x (or_else y z) ≡ or_else (or_else x y) z
+in_turn (Some a) y z = refl
+in_turn None y z = refl
+
+by_two : {A : Type 0} (a : At) (f g : Box → Option A) (z : Option A) → or_else (known a f) (or_else (known a g) z) ≡ or_else (known a (λ b. or_else (f b) (g b))) z
+by_two never f g z = refl
+by_two (within b) f g z = in_turn (f b) (g b) z
+
+by_one : {A : Type 0} (a : At) (f : Box → Option A) (z : Option A) → or_else (known a f) z ≡ or_else (known a (λ b. or_else (f b) None)) z
+by_one never f z = refl
+by_one (within b) f z = ap (λ o. or_else o z) (none (f b))
+  where
+    none : {A : Type 0} (o : Option A) → o ≡ or_else o None
+    none (Some x) = refl
+    none None = refl
+
+ways_fault : (p : Prog) (s : List ℤ) (n : ℕ) (i : Step) (hs : List Hop) → hops_fault p s (ways n i ++ hs) ≡ or_else (step_fault (words_of p i) p.vars s n i) (hops_fault p s hs)
+ways_fault p s n (Set x e) hs = refl
+ways_fault p s n (Add x e f) hs = refl
+ways_fault p s n (Sub x e f) hs = refl
+ways_fault p s n (Mul x c e) hs = refl
+ways_fault p s n (Load x a e) hs = refl
+ways_fault p s n (Store a e f) hs = refl
+ways_fault p s n (Ask x) hs = refl
+ways_fault p s n (Show e) hs = refl
+ways_fault p s n (Go t) hs = by_one (place_in p.vars s n) (way_miss (words_of p (Go t)) p.vars s n t.0 Jump (Go t)) (hops_fault p s hs)
+ways_fault p s n (Less e f t) hs = by_two (place_in p.vars s n) (way_miss (words_of p (Less e f t)) p.vars s n t.0 Jump (Less e f t)) (way_miss (words_of p (Less e f t)) p.vars s n (n + 1) Next (Less e f t)) (hops_fault p s hs)
+ways_fault p s n Stop hs = refl
+
 pub hops_steps : (p : Prog) (s : List ℤ) (n : ℕ) (is : List Step) → hops_fault p s (hops_from n is) ≡ steps_fault p s n is
 hops_steps p s n [] = refl
-hops_steps p s n (i ∷ is) =
-    ap (λ o. or_else (hop_fault (words_of p i) p.vars s (hop n i Jump)) (or_else (hop_fault (words_of p i) p.vars s (hop n i Next)) o)) (hops_steps p s (n + 1) is)
-    ∙ both (place_in p.vars s n) (way_miss (words_of p i) p.vars s n (target i) Jump i) (way_miss (words_of p i) p.vars s n (n + 1) Next i) (steps_fault p s (n + 1) is)
-  where
-    in_turn : {A : Type 0} (x y z : Option A) → or_else x (or_else y z) ≡ or_else (or_else x y) z
-    in_turn (Some a) y z = refl
-    in_turn None y z = refl
-
-    both : {A : Type 0} (a : At) (f g : Box → Option A) (z : Option A) → or_else (known a f) (or_else (known a g) z) ≡ or_else (known a (λ b. or_else (f b) (g b))) z
-    both never f g z = refl
-    both (within b) f g z = in_turn (f b) (g b) z
+hops_steps p s n (i ∷ is) = ways_fault p s n i (hops_from (n + 1) is) ∙ ap (or_else (step_fault (words_of p i) p.vars s n i)) (hops_steps p s (n + 1) is)
 
 -- what a check answers, from what it finds
 module _ {E F : Type 0} (f : E → F) (r : Result (Unit {0}) E) (q : Result (Unit {0}) F) (fine : r ≡ Ok tt → q ≡ Ok tt) (bad : (e : E) → r ≡ Err e → q ≡ Err (f e)) where

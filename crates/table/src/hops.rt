@@ -1,10 +1,12 @@
-// The hops of a program: its steps with the ways out of them, in the order of places.
+// The hops of a program: its steps with the ways out of them, in the order of places. Where a step has no such way, nothing comes
+// by it, and it is left out.
 
-ghost use Rattle.std.specs.Prelude.{◌≡◌};
+ghost use Rattle.std.specs.Prelude.{◌≡◌, ◌<◌};
 ghost use Rattle.std.specs.Iterator.{YieldsFirst, item_count};
 ghost use Rattle.program.specs.Rows.{IsProgram};
+ghost use Rattle.interval.specs.declared.Way.TheVariants.{Next};
 ghost use Rattle.table.specs.Tables.{target};
-ghost use Rattle.table.specs.Hops.{hops_of};
+ghost use Rattle.table.specs.Hops.{hop, hops_of};
 
 use interval::Way;
 use program::{Place, Program, Step, Steps};
@@ -27,6 +29,19 @@ pub fn place_named(step: Step) -> usize
         Step::Go(Place(t)) => t,
         Step::Less(_, _, Place(t)) => t,
         _ => 0,
+    }
+}
+
+// The way to the next place.
+fn onward(from: Place, step: Step) -> Hop
+    requires { from.0 < 4096 }
+    ensures { result ≡ hop from.0 step Next }
+{
+    Hop {
+        from,
+        to: Place(from.0 + 1),
+        step,
+        way: Way::Next,
     }
 }
 
@@ -60,15 +75,14 @@ impl<'a> Iterator for Hops<'a> {
     fn next(&mut self) -> Option<Hop> {
         if let Some((from, step)) = self.begun {
             self.begun = None;
-            return Some(Hop {
-                from,
-                to: Place(from.0 + 1),
-                step,
-                way: Way::Next,
-            });
+            return Some(onward(from, step));
         }
         let (from, step) = self.steps.next()?;
-        self.begun = Some((from, step));
+        match step {
+            Step::Go(_) => {}
+            Step::Less(..) => self.begun = Some((from, step)),
+            _ => return Some(onward(from, step)),
+        }
         Some(Hop {
             from,
             to: Place(place_named(step)),

@@ -11,4 +11,4 @@ pub use fault::{Fault, Miss, NotGood};
 pub use hops::{Hop, Hops, place_named};
 pub use licence::licensed;
 pub use look::{check, words_of};
-pub use place::{is_known, row_of};
+pub use place::{is_known, row_bounds, row_of};

@@ -14,7 +14,7 @@ ghost use Rattle.table.specs.Looking.{missed, rows_fault, hop_fault, steps_fault
 
 use crate::fault::{Fault, NotGood};
 use crate::hops::{Hop, Hops};
-use crate::place::{check_row, covered, is_known, row_of};
+use crate::place::{check_row, covered, is_known, row_bounds, row_of};
 use program::{Array, Program, Step};
 
 fn check_rows(table: &[i64], vars: usize, places: usize) -> Result<(), Fault>
@@ -23,9 +23,8 @@ fn check_rows(table: &[i64], vars: usize, places: usize) -> Result<(), Fault>
     requires small { places ≤ 4097 }
     ensures { result ≡ unless (rows_fault vars 0 table.now places) }
 {
-    let width = 1 + 2 * vars;
     for n in 0..places {
-        check_row(row_of(table, vars, n), n * width)?;
+        check_row(row_of(table, vars, n), row_bounds(vars, n).start)?;
     }
     Ok(())
 }

@@ -9,17 +9,28 @@ ghost use Rattle.table.specs.Looking.{outside, missed, row_fault, unless};
 
 use crate::fault::{Fault, Miss};
 use program::Var;
+use std::ops::Range;
 
-// The row of a place. This alone knows where it begins.
+// Where the row of a place stands in a table. This alone knows.
+pub fn row_bounds(vars: usize, n: usize) -> Range<usize>
+    requires few { vars ≤ 64 }
+    requires fits { n * width vars + width vars < 2 ^ 64 }
+    ensures start { result.start ≡ n * width vars }
+    ensures end { result.end ≡ n * width vars + width vars }
+{
+    let width = 1 + 2 * vars;
+    let start = n * width;
+    start..start + width
+}
+
+// The row of a place.
 pub fn row_of(table: &[i64], vars: usize, n: usize) -> &[i64]
     requires few { vars ≤ 64 }
     requires there { n * width vars + width vars ≤ length table.now }
     ensures row { result.now ≡ take (width vars) (drop (n * width vars) table.now) }
     ensures long { length result.now ≡ width vars }
 {
-    let width = 1 + 2 * vars;
-    let start = n * width;
-    &table[start..start + width]
+    &table[row_bounds(vars, n)]
 }
 
 // Whether something comes to the place of a row.

@@ -3,15 +3,14 @@ use Rattle.std.specs.List.{AllByRecursion}
 use Rattle.program.specs.Program.{counts_of}
 use Rattle.program.specs.Rows.{row_p}
 use Rattle.program.proofs.Whole.{few_vars}
-use Rattle.table.specs.Hops.{IsHop}
+use Rattle.table.specs.Hops.{through, IsHop}
 use Rattle.table.proofs.Nothing.{nth-ok_i}
 use Rattle.table.proofs.Hopping.{hops_are}
-use Rattle.fixpoint.specs.Hops.{through}
 use Rattle.fixpoint.specs.Confirming.{confirm_hop}
 use Rattle.fixpoint.specs.Joining.{table_in}
 use Rattle.fixpoint.specs.Moving.{Moved, moved_by}
 use Rattle.fixpoint.proofs.Hopping.{through_sweep}
-use Rattle.fixpoint.proofs.Moves.{hop_moved}
+use Rattle.fixpoint.proofs.Moves.{hop_moved, confirm_idle}
 use Rattle.fixpoint.proofs.guess.sweep.Goals as goal
 
 pub loop-hop-init : goal.loop-hop-init
@@ -21,7 +20,7 @@ loop-hop-init c =
     let all = c.into_iter-hop-iterator.ensures.into_iter_gives ∙ c.of-hop-items.ensures.all in
     record {
       hops = subst (AllByRecursion (IsHop p)) (sym all) (hops_are p c.of-hop-items.ensures.fine);
-      sweep = ap (λ hs. through f hs (record { table = table_in (counts_of p) c.args.table.now; moved = false })) all ∙ through_sweep f 0 p.code _;
+      sweep = ap (λ hs. through f hs (record { table = table_in (counts_of p) c.args.table.now; moved = false })) all ∙ through_sweep f (confirm_idle p (table_in (counts_of p) c.args.guess.now)) 0 p.code _;
     }
 
 pub move_hop-moved-requires : goal.move_hop-moved-requires

@@ -1,8 +1,7 @@
 use Rattle.std.proofs.Common.{◌≡◌}
 use Rattle.std.specs.List.{AllByRecursion}
 use Rattle.program.specs.Program.{counts_of}
-use Rattle.table.specs.Hops.{IsHop}
-use Rattle.fixpoint.specs.Hops.{through}
+use Rattle.table.specs.Hops.{through, IsHop}
 use Rattle.fixpoint.specs.Confirming.{confirm_hop, confirm_sweep}
 use Rattle.fixpoint.specs.Joining.{table_in}
 use Rattle.fixpoint.proofs.guess.sweep.Given as goal

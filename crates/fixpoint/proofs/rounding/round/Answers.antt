@@ -3,13 +3,12 @@ use Rattle.std.specs.List.{AllByRecursion}
 use Rattle.program.specs.Program.{counts_of}
 use Rattle.program.specs.Rows.{row_p}
 use Rattle.program.proofs.Whole.{few_vars, few_steps}
-use Rattle.table.specs.Hops.{IsHop}
+use Rattle.table.specs.Hops.{through, IsHop}
 use Rattle.table.proofs.Nothing.{nth-ok_i}
 use Rattle.table.proofs.Hopping.{hops_are}
-use Rattle.fixpoint.specs.Hops.{through}
 use Rattle.fixpoint.specs.Rounds.{round_hop}
 use Rattle.fixpoint.specs.Joining.{table_in, Writes}
-use Rattle.fixpoint.proofs.Hopping.{hop_joined, through_sweep, round_says}
+use Rattle.fixpoint.proofs.Hopping.{hop_joined, through_sweep, round_idle, round_says}
 use Rattle.fixpoint.proofs.Promises.{parts}
 use Rattle.fixpoint.proofs.rounding.round.Goals as goal
 
@@ -20,7 +19,7 @@ loop-hop-init c =
     let all = c.into_iter-hop-iterator.ensures.into_iter_gives ∙ c.of-hop-items.ensures.all in
     record {
       hops = subst (AllByRecursion (IsHop p)) (sym all) (hops_are p c.of-hop-items.ensures.fine);
-      round = ap (λ hs. through (round_hop p) hs (record { table = t; changed = false })) all ∙ through_sweep (round_hop p) 0 p.code _;
+      round = ap (λ hs. through (round_hop p) hs (record { table = t; changed = false })) all ∙ through_sweep (round_hop p) (round_idle p) 0 p.code _;
       writes = λ w. w;
     }
 

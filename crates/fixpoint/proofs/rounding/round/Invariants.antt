@@ -1,8 +1,7 @@
 use Rattle.std.proofs.Common.{◌≡◌}
 use Rattle.std.specs.List.{AllByRecursion}
 use Rattle.program.specs.Program.{counts_of}
-use Rattle.table.specs.Hops.{IsHop}
-use Rattle.fixpoint.specs.Hops.{through}
+use Rattle.table.specs.Hops.{through, IsHop}
 use Rattle.fixpoint.specs.Rounds.{round_hop, round}
 use Rattle.fixpoint.specs.Joining.{table_in, Writes}
 use Rattle.fixpoint.proofs.rounding.round.Given as goal

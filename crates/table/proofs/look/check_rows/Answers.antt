@@ -28,7 +28,7 @@ returns-in_err-check_row c =
     let m = c.args.places - (c.loop-n.n + 1) in
     let more : c.args.places - c.loop-n.n ≡ suc m = omega (arith, c.loop-n-test.true) in
     let q = err_from_is_err_and c.from_residual.result c.from_residual.ensures.1 in
-    let here : row_fault k (take (width v) (drop k s)) ≡ Some c.in_err-check_row.field-0.0 = ap (row_fault k) (sym c.row_of.ensures.row) ∙ unless_some _ _ c.in_err-check_row.ensures in
+    let here : row_fault k (take (width v) (drop k s)) ≡ Some c.in_err-check_row.field-0.0 = ap (row_fault k) (sym c.row_of.ensures.row) ∙ ap (λ k. row_fault k c.row_of.result.now) (sym c.row_bounds.ensures.start) ∙ unless_some _ _ c.in_err-check_row.ensures in
     q.1 ∙ ap Err q.2 ∙ ap unless (sym (ap (λ o. or_else o (rows_fault v (k + width v) s m)) here) ∙ sym (rows_more v k _ m s more) ∙ c.loop-n.invariant)
 
 pub loop-n-preserved : goal.loop-n-preserved
@@ -40,7 +40,7 @@ loop-n-preserved c =
     let m = c.args.places - (n + 1) in
     let more : c.args.places - n ≡ suc m = omega (arith, c.loop-n-test.true) in
     let next : (n + 1) * width v ≡ k + width v = let a = add-mul n 1 (width v) in omega (arith, a, one-mul (width v)) in
-    let here : row_fault k (take (width v) (drop k s)) ≡ None = ap (row_fault k) (sym c.row_of.ensures.row) ∙ unless_none _ _ c.in_ok-check_row.ensures in
+    let here : row_fault k (take (width v) (drop k s)) ≡ None = ap (row_fault k) (sym c.row_of.ensures.row) ∙ ap (λ k. row_fault k c.row_of.result.now) (sym c.row_bounds.ensures.start) ∙ unless_none _ _ c.in_ok-check_row.ensures in
     ap (λ k. rows_fault v k s m) next ∙ sym (ap (λ o. or_else o (rows_fault v (k + width v) s m)) here) ∙ sym (rows_more v k _ m s more) ∙ c.loop-n.invariant
 
 pub returns : goal.returns
