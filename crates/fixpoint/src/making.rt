@@ -24,6 +24,7 @@ pub fn hop_number(hop: Hop) -> i64
 
 // Makes in `out` what is known where a hop leads, if anything comes there. `words` is the length of the array that its step
 // names.
+#[inline(always)]
 pub fn make<'a>(
     table: &[i64],
     counts: Counts,

@@ -95,6 +95,7 @@ fn go_on(step: Step, words: u32, numbers: &mut [i64]) -> Option<()>
 
 // What is known where a step leads if `from` was known before it, in `out`, if anything comes there. `words` is the length
 // of the array that the step names.
+#[inline(always)]
 pub fn transfer<'a>(
     step: Step,
     way: Way,

@@ -43,7 +43,7 @@ impl From<Refusal> for NoOffsets {
 fn number(row: &[i64], k: usize, field: Field) -> Result<i64, Refusal>
     ensures { result ≡ number_in row.now k field }
 {
-    row.get(k).copied().ok_or(Refusal {
+    row.get(k).copied().ok_or_else(|| Refusal {
         at: row.len(),
         reason: Reason::Missing(field),
     })

@@ -94,6 +94,7 @@ impl<'a> Iterator for Steps<'a> {
 
     ghost remaining = { λ s. at_most (length s.steps) };
 
+    #[inline(always)]
     fn next(&mut self) -> Option<(Place, Step)> {
         if self.place >= self.counts.steps {
             return None;

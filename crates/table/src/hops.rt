@@ -72,6 +72,7 @@ impl<'a> Iterator for Hops<'a> {
 
     ghost remaining = { item_count (λ rest. rest) };
 
+    #[inline(always)]
     fn next(&mut self) -> Option<Hop> {
         if let Some((from, step)) = self.begun {
             self.begun = None;
