@@ -40,13 +40,7 @@ fn check_start(table: &[i64], vars: usize) -> Result<(), Fault>
 }
 
 // Whether the place to which a hop leads has what the hop makes there. `words` is the length of the array that its step names.
-fn check_hop(
-    table: &[i64],
-    vars: usize,
-    hop: Hop,
-    words: u32,
-    out: &mut [i64],
-) -> Result<(), Fault>
+fn check_hop(table: &[i64], vars: usize, hop: Hop, words: u32, out: &mut [i64]) -> Result<(), Fault>
     requires few { vars ≤ 64 }
     requires room { length out.old ≡ 2 * vars }
     requires here { hop.from.0 * width vars + width vars ≤ length table.now }
