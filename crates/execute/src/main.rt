@@ -1,8 +1,6 @@
 // Runs a program with a table, or checks the table.
 #![tactic(auto)]
 
-ghost use Rattle.std.specs.Prelude.{◌≤◌, length, IfOk};
-
 use message::Error;
 use std::env;
 use std::process::ExitCode;
@@ -49,17 +47,11 @@ enum Call {
 }
 
 fn steps(word: String) -> Result<u32, Error> {
-    match word.as_str().parse::<u32>() {
-        Ok(n) => Ok(n),
-        Err(_) => Err(Error::Steps(word)),
-    }
+    word.as_str().parse().map_err(|_| Error::Steps(word))
 }
 
 fn asked(rt: &HostRuntime) -> Result<Call, Error> {
-    let mut words = match env::args(rt) {
-        Ok(words) => words.skip(1),
-        Err(_) => return Err(Error::Usage(USAGE)),
-    };
+    let mut words = env::args(rt).map_err(|_| Error::Usage(USAGE))?.skip(1);
     let (Some(first), second, third, None) = (
         words.next(),
         words.next(),
@@ -78,83 +70,38 @@ fn asked(rt: &HostRuntime) -> Result<Call, Error> {
     }
 }
 
-// The program and the table, each read into the same buffer; how many numbers they have.
-fn load(
-    rt: &HostRuntime,
-    program: String,
-    table: String,
-    text: &mut [u8],
-    rows: &mut [i64],
-    numbers: &mut [i64],
-) -> Result<(usize, usize), Error>
-    ensures { IfOk result (λ x. (x.0 ≤ length rows.old) × (x.1 ≤ length numbers.old)) }
-{
-    let k = report::read_text(rt, Some(program), text)?;
-    let n = report::load_program(&text[0..k], rows)?;
-    let k = report::read_text(rt, Some(table), text)?;
-    let m = report::load_table(&text[0..k], &rows[0..n], numbers)?;
-    Ok((n, m))
-}
-
 fn check(rt: &HostRuntime, program: String, table: String) -> Result<String, Error> {
     let heap = rt.alloc();
     let mut program_text = vec![in heap; 0u8; report::TEXT + 1]?;
     let mut table_text = vec![in heap; 0u8; report::TEXT + 1]?;
     let mut rows = vec![in heap; 0i64; report::NUMBERS]?;
     let mut numbers = vec![in heap; 0i64; report::TABLE]?;
-    let n = report::read_text(rt, Some(program), &mut program_text)?;
-    let m = report::read_text(rt, Some(table), &mut table_text)?;
-    report::check_text(
-        heap,
-        &program_text[0..n],
-        &table_text[0..m],
-        &mut rows,
-        &mut numbers,
-    )
-}
-
-// What a run is given: the numbers of the program, of the table, and handed in.
-fn given(
-    rt: &HostRuntime,
-    program: String,
-    table: String,
-    text: &mut [u8],
-    rows: &mut [i64],
-    numbers: &mut [i64],
-    asked: &mut [i64],
-) -> Result<(usize, usize, usize), Error>
-    ensures { IfOk result (λ x. (x.0 ≤ length rows.old) × (x.1 ≤ length numbers.old) × (x.2 ≤ length asked.old)) }
-{
-    let (n, m) = load(rt, program, table, text, rows, numbers)?;
-    let k = report::read_text(rt, None, text)?;
-    let j = report::load_numbers(&text[0..k], asked)?;
-    Ok((n, m, j))
+    let program = report::read_text(rt, Some(program), &mut program_text)?;
+    let table = report::read_text(rt, Some(table), &mut table_text)?;
+    report::check_text(heap, program, table, &mut rows, &mut numbers)
 }
 
 fn run(rt: &HostRuntime, program: String, table: String, steps: u32) -> Result<String, Error> {
     let heap = rt.alloc();
+    let mut text = vec![in heap; 0u8; report::TEXT + 1]?;
     let mut rows = vec![in heap; 0i64; report::NUMBERS]?;
     let mut numbers = vec![in heap; 0i64; report::TABLE]?;
     let mut asked = vec![in heap; 0i64; report::SHOWN]?;
-    let (n, m, j) = {
-        let mut text = vec![in heap; 0u8; report::TEXT + 1]?;
-        given(
-            rt,
-            program,
-            table,
-            &mut text,
-            &mut rows,
-            &mut numbers,
-            &mut asked,
-        )?
-    };
+    let program = report::load_program(report::read_text(rt, Some(program), &mut text)?, &mut rows)?;
+    let table = report::load_table(
+        report::read_text(rt, Some(table), &mut text)?,
+        program.rows(),
+        &mut numbers,
+    )?;
+    let asked = report::load_numbers(report::read_text(rt, None, &mut text)?, &mut asked)?;
+    drop(text);
     let mut shown = vec![in heap; 0i64; report::SHOWN]?;
     let mut work = vec![in heap; 0i64; report::WORK]?;
     transcript::run_text(
         heap,
-        &rows[0..n],
-        &numbers[0..m],
-        &asked[0..j],
+        program.rows(),
+        table,
+        asked,
         steps,
         &mut shown,
         &mut work,
@@ -169,10 +116,6 @@ fn answer(rt: &HostRuntime) -> Result<String, Error> {
     }
 }
 
-// What is refused is said already, so `main` ends with the status alone.
 fn main(rt: HostRuntime) -> ExitCode {
-    match report::finish(&rt, answer(&rt)) {
-        Ok(()) => ExitCode::SUCCESS,
-        Err(_) => ExitCode::FAILURE,
-    }
+    report::finish(&rt, answer(&rt))
 }

@@ -60,13 +60,14 @@ fn index(row: &[i64], k: usize, field: Field) -> Result<usize, Refusal>
     ensures { result ≡ index_in row.now k field }
 {
     let z = number(row, k, field)?;
-    match usize::try_from(z) {
-        Ok(n) if field.allows(n) => Ok(n),
-        _ => Err(Refusal {
+    // tried as `usize::try_from`: a step is read in a fifth more instructions
+    if z < 0 || !field.allows(z as usize) {
+        return Err(Refusal {
             at: k,
             reason: Reason::Outside(field, z),
-        }),
+        });
     }
+    Ok(z as usize)
 }
 
 fn operand(row: &[i64], k: usize, vars: usize) -> Result<Operand, Refusal>
