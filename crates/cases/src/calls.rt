@@ -31,10 +31,9 @@ fn called(
     let mut rows = vec![in heap; 0i64; 64]?;
     let mut numbers = vec![in heap; 0i64; 64]?;
     let mut lent = vec![in heap; 77i64; work]?;
-    let n = report::load_numbers(program.as_bytes(), &mut rows)?;
-    let m = report::load_numbers(table.as_bytes(), &mut numbers)?;
-    let asked = [];
-    let ran = interpreter::run(&rows[0..n], &numbers[0..m], &asked, steps, shown, &mut lent);
+    let program = report::load_numbers(program.as_bytes(), &mut rows)?;
+    let table = report::load_numbers(table.as_bytes(), &mut numbers)?;
+    let ran = interpreter::run(program, table, &[], steps, shown, &mut lent);
     Ok(in_words(heap, ran)?)
 }
 
@@ -169,14 +168,10 @@ fn check_wants(
     wanted: usize,
 ) -> Result<(), Fail> {
     let mut rows = vec![in heap; 0i64; 64]?;
-    let n = match report::load_program(program.as_bytes(), &mut rows) {
-        Ok(n) => n,
-        Err(_) => return Err(Fail::new("no program")),
+    let Ok(read) = report::load_program(program.as_bytes(), &mut rows) else {
+        return Err(Fail::new("no program"));
     };
-    match program::read(&rows[0..n]) {
-        Ok(counts) => assert_eq!(rt; interpreter::wants(counts), wanted),
-        Err(_) => return Err(Fail::new("no program")),
-    }
+    assert_eq!(rt; interpreter::wants(read.counts()), wanted);
     assert!(rt; wanted > 0);
     let stays = [-7, -7, -7, -7];
     check_calls(

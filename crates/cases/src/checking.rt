@@ -1,5 +1,6 @@
 // Tables that hold and tables that don't, each with the answer in full.
 
+use crate::printing::print;
 use std::alloc::{AllocError, Global};
 use std::process::Abort;
 use std::test::Fail;
@@ -7,16 +8,14 @@ use std::test::Fail;
 fn answer(heap: Global, program: &str, table: &str) -> Result<String, AllocError> {
     let mut rows = vec![in heap; 0i64; report::NUMBERS]?;
     let mut numbers = vec![in heap; 0i64; report::TABLE]?;
-    match report::check_text(
+    let said = report::check_text(
         heap,
         program.as_bytes(),
         table.as_bytes(),
         &mut rows,
         &mut numbers,
-    ) {
-        Ok(said) => Ok(said),
-        Err(error) => format!(in heap; "{error}"),
-    }
+    );
+    print(heap, said)
 }
 
 fn check_answers(

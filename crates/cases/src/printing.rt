@@ -4,8 +4,5 @@ use message::Error;
 use std::alloc::{AllocError, Global};
 
 pub(crate) fn print(heap: Global, res: Result<String, Error>) -> Result<String, AllocError> {
-    match res {
-        Ok(text) => Ok(text),
-        Err(error) => format!(in heap; "{error}"),
-    }
+    res.or_else(|error| format!(in heap; "{error}"))
 }

@@ -231,13 +231,11 @@ fn cut_off(rt: HostRuntime) -> Result<(), Fail> {
     ];
     assert!(rt; program::read(&rows).is_ok());
     for n in 0..rows.len() {
-        match program::read(&rows[0..n]) {
-            Err(refusal) => {
-                assert_eq!(rt; refusal.at, n);
-                assert!(rt; matches!(refusal.reason, Reason::Missing(_)));
-            }
-            Ok(_) => return Err(Fail::new("a program that is cut off")),
-        }
+        let Err(refusal) = program::read(&rows[0..n]) else {
+            return Err(Fail::new("a program that is cut off"));
+        };
+        assert_eq!(rt; refusal.at, n);
+        assert!(rt; matches!(refusal.reason, Reason::Missing(_)));
     }
     Ok(())
 }
@@ -248,13 +246,11 @@ fn write_largest(rows: &mut [i64])
 {
     rows[0] = 64;
     rows[1] = 16;
-    for k in 2..18 {
-        rows[k] = 65536;
-    }
+    rows[2..18].fill(65536);
     rows[18] = 4096;
-    for k in 0..4096 {
-        rows[19 + 6 * k] = 9;
-        rows[20 + 6 * k] = 4096;
+    for step in rows[19..].chunks_exact_mut(6) {
+        step[0] = 9;
+        step[1] = 4096;
     }
 }
 
@@ -263,21 +259,19 @@ fn write_largest(rows: &mut [i64])
 fn largest(rt: HostRuntime) -> Result<(), Fail> {
     let mut rows = vec![in rt.alloc(); 0i64; 24596]?;
     write_largest(&mut rows);
-    let counts = match program::read(&rows[0..24595]) {
-        Ok(counts) => counts,
-        Err(_) => return Err(Fail::new("the largest program")),
+    let Ok(program) = program::read(&rows[0..24595]) else {
+        return Err(Fail::new("the largest program"));
     };
+    let counts = program.counts();
     assert_eq!(rt;
         (counts.vars, counts.arrays, counts.words, counts.steps),
         (64, 16, 1048576, 4096)
     );
-    match program::read(&rows) {
-        Ok(_) => Err(Fail::new("a number too many")),
-        Err(refusal) => {
-            assert_eq!(rt; refusal.at, 24595);
-            Ok(())
-        },
-    }
+    let Err(refusal) = program::read(&rows) else {
+        return Err(Fail::new("a number too many"));
+    };
+    assert_eq!(rt; refusal.at, 24595);
+    Ok(())
 }
 
 #[test]

@@ -2,20 +2,19 @@
 
 use crate::printing::print;
 use message::Error;
+use program::Counts;
 use std::alloc::{AllocError, Global};
 use std::process::Abort;
 use std::test::Fail;
 
 // The table of a program that knows nothing.
-fn knowing_nothing(heap: Global, rows: &[i64]) -> Result<Vec<i64>, AllocError> {
+fn knowing_nothing(heap: Global, counts: Counts) -> Result<Vec<i64>, AllocError> {
     let mut table = Vec::new(heap);
-    if let Ok(counts) = program::read(rows) {
-        for _ in 0..=counts.steps {
-            table.push(1)?;
-            for _ in 0..counts.vars {
-                table.push(i64::MIN)?;
-                table.push(i64::MAX)?;
-            }
+    for _ in 0..=counts.steps {
+        table.push(1)?;
+        for _ in 0..counts.vars {
+            table.push(i64::MIN)?;
+            table.push(i64::MAX)?;
         }
     }
     Ok(table)
@@ -32,16 +31,8 @@ fn run_lines(
     let mut numbers = vec![in heap; 77i64; report::SHOWN]?;
     let mut shown = vec![in heap; 77i64; report::SHOWN]?;
     let mut work = vec![in heap; 77i64; report::WORK]?;
-    let n = report::load_numbers(asked.as_bytes(), &mut numbers)?;
-    transcript::run_text(
-        heap,
-        rows,
-        table,
-        &numbers[0..n],
-        steps,
-        &mut shown,
-        &mut work,
-    )
+    let asked = report::load_numbers(asked.as_bytes(), &mut numbers)?;
+    transcript::run_text(heap, rows, table, asked, steps, &mut shown, &mut work)
 }
 
 fn printed(
@@ -53,17 +44,17 @@ fn printed(
 ) -> Result<String, Error> {
     let mut rows = vec![in heap; 0i64; report::NUMBERS]?;
     let mut numbers = vec![in heap; 0i64; report::TABLE]?;
-    let n = report::load_program(program.as_bytes(), &mut rows)?;
-    let m = report::load_table(table.as_bytes(), &rows[0..n], &mut numbers)?;
-    run_lines(heap, &rows[0..n], &numbers[0..m], asked, steps)
+    let program = report::load_program(program.as_bytes(), &mut rows)?;
+    let table = report::load_table(table.as_bytes(), program.rows(), &mut numbers)?;
+    run_lines(heap, program.rows(), table, asked, steps)
 }
 
 // With a table that knows nothing.
 fn printed_open(heap: Global, program: &str, asked: &str, steps: u32) -> Result<String, Error> {
     let mut rows = vec![in heap; 0i64; report::NUMBERS]?;
-    let n = report::load_program(program.as_bytes(), &mut rows)?;
-    let table = knowing_nothing(heap, &rows[0..n])?;
-    run_lines(heap, &rows[0..n], &table, asked, steps)
+    let program = report::load_program(program.as_bytes(), &mut rows)?;
+    let table = knowing_nothing(heap, program.counts())?;
+    run_lines(heap, program.rows(), &table, asked, steps)
 }
 
 // What is handed in, how many steps at most, the answer up to the number of tests done, and this number with the table, and

@@ -4,9 +4,8 @@ use fixpoint::Confirmed;
 
 // Rounds from the start until nothing changes, at most a hundred: how many changed something.
 fn settle(rows: &[i64], table: &mut [i64], out: &mut [i64], notes: &mut [i64]) -> Option<usize> {
-    let Ok(counts) = program::read(rows) else {
-        return None;
-    };
+    let program = program::read(rows).ok()?;
+    let counts = program.counts();
     if counts.vars != 1 || 3 * counts.steps + 3 != table.len() {
         return None;
     }
@@ -15,7 +14,7 @@ fn settle(rows: &[i64], table: &mut [i64], out: &mut [i64], notes: &mut [i64]) -
     }
     fixpoint::start(counts, table);
     for n in 0..100 {
-        if !fixpoint::round(rows, counts, table, out, notes) {
+        if !fixpoint::round(&program, table, out, notes) {
             return Some(n);
         }
     }
@@ -24,9 +23,8 @@ fn settle(rows: &[i64], table: &mut [i64], out: &mut [i64], notes: &mut [i64]) -
 
 // A guess over a table, with at most a hundred sweeps.
 fn confirm(rows: &[i64], table: &[i64], guess: &[i64], moved: &mut [i64]) -> Option<Confirmed> {
-    let Ok(counts) = program::read(rows) else {
-        return None;
-    };
+    let program = program::read(rows).ok()?;
+    let counts = program.counts();
     if counts.vars != 1 || 3 * counts.steps + 3 != table.len() {
         return None;
     }
@@ -36,7 +34,7 @@ fn confirm(rows: &[i64], table: &[i64], guess: &[i64], moved: &mut [i64]) -> Opt
     let mut made = [0i64; 2];
     let mut grown = [0i64; 2];
     Some(fixpoint::confirm(
-        rows, counts, table, guess, moved, &mut made, &mut grown, 100,
+        &program, table, guess, moved, &mut made, &mut grown, 100,
     ))
 }
 
