@@ -1,6 +1,6 @@
 // How a run came out.
 
-// What a run promises speaks of these by name: a Result would part those that end a run from those that keep it from beginning.
+// What a run promises names each of these answers, with the condition that it is given under: so they are one enum, and no Result.
 #[derive(Clone, Copy)]
 pub enum Ran {
     // how many numbers were shown, and how many tests were done

@@ -19,6 +19,13 @@ words_at s a = index (slice_index_or s (2 + a) (pos 0))
 abbrev pub start_at : List ℤ → ℕ → ℕ
 start_at s a = index (slice_index_or s a (pos 0))
 
+-- the array is one, and the number one of its indices if it is sure to be
+pub record Stands (s st : List ℤ) (sure : Bool) (a : ℕ) (i : ℤ) : Type 0 where
+  pub there : 2 + a < length s
+  pub begun : a < length st
+  pub start : slice_index_or st a (pos 0) ≡ pos (start_at st a)
+  pub fits : sure ≡ true → index_of (words_at s a) i ≡ true
+
 -- at another place; at the next; what comes of a test
 abbrev pub to : Cursor → Place → Cursor
 to c t = record { place = t.0; taken = c.taken; count = c.count }

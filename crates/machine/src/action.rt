@@ -4,7 +4,7 @@ ghost use Rattle.std.specs.Prelude.{◌≡◌, ◌<◌, length, slice_set};
 ghost use Rattle.std.specs.Option.{option_map};
 ghost use Rattle.machine.specs.Acting.{Ready, Acted, Moved};
 
-use crate::arrays::{load, store};
+use crate::arrays::Layout;
 use crate::cursor::{Cursor, Outcome};
 use crate::exchange::{ask, show};
 use crate::variables::{add, mul, sub, value};
@@ -19,7 +19,8 @@ fn assign(vars: &mut [i64], x: Var, number: Option<i64>) -> Option<()>
     Some(())
 }
 
-// What a step does. A test that is sure isn't done.
+// What a step does. A test that is sure isn't done. What is lent stays in parameters: a slice that is one keeps its length and is
+// given back by itself, and one in a struct only where each contract says so.
 pub fn perform(
     program: &Program,
     starts: &[i64],
@@ -35,7 +36,10 @@ pub fn perform(
     ensures acts { Acted program.now cursor vars.old memory.old asked.now shown.old step result vars.new memory.new shown.new }
     ensures moves { Moved program.now cursor asked.now shown.old result shown.new }
 {
-    let rows = program.rows();
+    let layout = Layout {
+        rows: program.rows(),
+        starts,
+    };
     match step {
         Step::Set(x, e) => {
             vars[x.0] = value(vars, e);
@@ -54,13 +58,13 @@ pub fn perform(
             cursor.settled(assign(vars, x, product))
         }
         Step::Load(x, a, e) => {
-            let number = load(rows, starts, memory, sure, a, value(vars, e));
+            let number = layout.load(memory, sure, a, value(vars, e));
             cursor.settled(assign(vars, x, number))
         }
         Step::Store(a, e, f) => {
             let i = value(vars, e);
             let z = value(vars, f);
-            cursor.settled(store(rows, starts, memory, sure, a, i, z))
+            cursor.settled(layout.store(memory, sure, a, i, z))
         }
         Step::Ask(x) => {
             let (z, taken) = ask(asked, cursor.taken);

@@ -3,9 +3,9 @@ use Rattle.std.proofs.lemmas.Option.{slice_get_past}
 use Rattle.program.proofs.Within.{nth_within}
 use Rattle.table.proofs.Nothing.{nth-ok_i}
 use Rattle.machine.proofs.Marking.{length_marks}
-use Rattle.interpreter.specs.declared.ran.Ran.TheVariants.{Stopped, Failed, More}
+use Rattle.interpreter.specs.declared.ran.Ran.TheVariants.{Stopped, Failed}
 use Rattle.interpreter.specs.Ending.{Ends}
-use Rattle.interpreter.proofs.Loop.{Going, starts, ends, stops, failed, behind, within_marks, begins, fetched, sure-passes, went, at_most_one}
+use Rattle.interpreter.proofs.Loop.{starts, stops, failed, behind, within_marks, begins, fetched, sure-passes, went, at_most_one}
 use Rattle.interpreter.proofs.going.proceed.Goals as goal
 
 pub loop-init : goal.loop-init
@@ -28,9 +28,6 @@ fetch-step-requires c =
     let found = c.requires.marked in
     let g = c.loop.invariant.4 found.0 found.1 found.2 in
     begins c.rows-rows.result.now c.args.marks.now c.args.program.now found.0 c.rows-rows.ensures found.2 c.loop.cursor.place g.place c.if-cursor-marks.false c.mark_at-mark.result.0 c.mark_at-mark.ensures c.offset.result c.offset.ensures
-
-pub counted-tests-requires : goal.counted-tests-requires
-counted-tests-requires c = omega (arith, c.loop.invariant.0, c.loop-test.true, c.ranges.steps.fits)
 
 pub perform-requires : goal.perform-requires
 perform-requires c =
@@ -73,14 +70,6 @@ loop-preserved c =
           let w = went s c.args.asked.now p t is holds c.requires.fit c.loop.counter cursor c.loop.vars c.loop.memory c.loop.shown c.loop.tests g i u.0 _ c.is_sure-sure.result c.counted-tests.result c.in-On.ensures.acts u.1 c.counted-tests.ensures in
           record { runs = w.0; tests = w.1; place = moved.place },
     )
-
-pub returns : goal.returns
-returns c t holds marked =
-    let p = c.args.program.now in
-    let inv = c.loop.invariant in
-    let all : c.loop.counter ≡ c.args.steps = omega (arith, c.loop-test.false, c.loop.auto.counter-end) in
-    let g = subst (λ n. Going p t c.args.asked.now n c.loop.cursor c.loop.vars c.loop.memory c.loop.shown c.loop.tests) all (inv.4 t holds marked) in
-    ends p t c.args.asked.now c.args.steps c.args.shown.now c.loop.shown c.loop.cursor.count c.loop.tests _ (More c.loop.cursor.count c.loop.tests) g.runs g.tests refl inv.2 inv.3 (λ long. ap (λ n. More n c.loop.tests) (sym long))
 
 pub returns-then-cursor-marks : goal.returns-then-cursor-marks
 returns-then-cursor-marks c t holds marked =

@@ -20,39 +20,27 @@ ready {p} {c} {st} {vs} {m} {q} {o} {sure} e = subst (Ready p c st vs m q o sure
 pub load-number-requires : goal.load-number-requires
 load-number-requires c =
     let k = ready c.in-Load.is c.requires in
-    let h = loads_there c.rows-rows.ensures k in
-    record {
-      there = h.row;
-      begun = h.begun;
-      start = h.start;
-      room = h.room;
-      fits = λ sure. ap₂ index_of h.long (passed c.value-in-Load.type_inv c.value-in-Load.ensures) ∙ k.passes sure;
-    }
+    let h = loads_there c.rows.ensures k in
+    record { stands = record { there = h.row; begun = h.begun; start = h.start; fits = λ sure. ap₂ index_of h.long (passed c.value-in-Load.type_inv c.value-in-Load.ensures) ∙ k.passes sure }; room = h.room }
 
 pub store-requires : goal.store-requires
 store-requires c =
     let k = ready c.in-Store.is c.requires in
-    let h = stores_there c.rows-rows.ensures k in
-    record {
-      there = h.row;
-      begun = h.begun;
-      start = h.start;
-      room = h.room;
-      fits = λ sure. ap₂ index_of h.long (passed c.value-i.type_inv c.value-i.ensures) ∙ k.passes sure;
-    }
+    let h = stores_there c.rows.ensures k in
+    record { stands = record { there = h.row; begun = h.begun; start = h.start; fits = λ sure. ap₂ index_of h.long (passed c.value-i.type_inv c.value-i.ensures) ∙ k.passes sure }; room = h.room }
 
 pub returns-in-Load-clause-acts : goal.returns-in-Load-clause-acts
 returns-in-Load-clause-acts c =
     let k = ready c.in-Load.is c.requires in
     let i = passed c.value-in-Load.type_inv c.value-in-Load.ensures in
-    rw c.in-Load.is (by_load c.rows-rows.ensures k c.assign-in-Load.result c.assign-in-Load.new.vars i c.load-number.ensures c.assign-in-Load.ensures c.settled-in-Load.ensures)
+    rw c.in-Load.is (by_load c.rows.ensures k c.assign-in-Load.result c.assign-in-Load.new.vars i c.load-number.ensures c.assign-in-Load.ensures c.settled-in-Load.ensures)
 
 pub returns-in-Store-clause-acts : goal.returns-in-Store-clause-acts
 returns-in-Store-clause-acts c =
     let k = ready c.in-Store.is c.requires in
     let i = passed c.value-i.type_inv c.value-i.ensures in
     let z = passed c.value-z.type_inv c.value-z.ensures in
-    rw c.in-Store.is (by_store c.rows-rows.ensures k c.store.result c.store.new.memory i z c.store.ensures c.settled-in-Store.ensures)
+    rw c.in-Store.is (by_store c.rows.ensures k c.store.result c.store.new.memory i z c.store.ensures c.settled-in-Store.ensures)
 
 pub returns-in-None-clause-acts : goal.returns-in-None-clause-acts
 returns-in-None-clause-acts c =

@@ -1,24 +1,15 @@
-use Rattle.std.proofs.Common.{◌≡◌, ◌+◌, ◌<◌, [], ◌∷◌, ◌++◌, length, take, set, sym, ap, ◌∙◌, refl, add_assoc, arith, w64, SFits, to_z, of_z, rules}
+use Rattle.std.proofs.Common.{◌≡◌, ◌+◌, ◌<◌, [], ◌∷◌, ◌++◌, length, take, set, sym, ap, ◌∙◌, add_assoc, arith, w64, SFits, to_z, of_z, rules}
 use Rattle.std.proofs.lemmas.List.{append_assoc, append-nil, take_all, take_more_set}
 use Rattle.std.proofs.lemmas.Int.{to_z-of_z}
 use Rattle.program.specs.Reading.{width, widths}
-use Rattle.program.proofs.Walk.{turn, ahead_all, ahead_none, ends_few}
+use Rattle.program.proofs.Walk.{turn, ahead_none, ends_few}
 use Rattle.table.specs.Rows.{row_t}
 use Rattle.table.specs.Licences.{licensed}
 use Rattle.machine.specs.Marks.{mark, marks_from}
 use Rattle.machine.proofs.marks.mark_steps.Goals as goal
 
-pub loop-place-init : goal.loop-place-init
-loop-place-init c =
-    let all = c.into_iter-place-iterator.ensures.into_iter_gives ∙ c.steps-place-items.ensures.all in
-    let arrays = ap (λ k. k.arrays) c.counts-counts.ensures.exact in
-    (ahead_all c.args.program.now _ all, rw (all, arrays) refl, λ t f q. rw (all, arrays) refl)
-
 pub new-requires : goal.new-requires
 new-requires c = omega (arith, c.loop-place.invariant.1, ends_few c.args.program.now c.steps-place-items.ensures.fine)
-
-pub overflow_add-at-in-loop-place : goal.overflow_add-at-in-loop-place
-overflow_add-at-in-loop-place c = omega (arith, c.loop-place.invariant.1, ends_few c.args.program.now c.steps-place-items.ensures.fine, ap widths c.in-Some.ensures.steps.0, c.width-at.ensures)
 
 pub loop-place-preserved : goal.loop-place-preserved
 loop-place-preserved c =
