@@ -618,9 +618,11 @@ fn refusals(rt: HostRuntime) -> Result<(), Fail> {
 fn loaded(heap: Global, text: &str, of: &str, room: usize) -> Result<String, Error> {
     let mut numbers = vec![in heap; 0i64; room]?;
     let n = match of {
-        "program" => report::load_program(text.as_bytes(), &mut numbers)?,
-        "table" => report::load_table(text.as_bytes(), &[1, 0, 0], &mut numbers)?,
-        _ => report::load_numbers(text.as_bytes(), &mut numbers)?,
+        "program" => report::load_program(text.as_bytes(), &mut numbers)?
+            .rows()
+            .len(),
+        "table" => report::load_table(text.as_bytes(), &[1, 0, 0], &mut numbers)?.len(),
+        _ => report::load_numbers(text.as_bytes(), &mut numbers)?.len(),
     };
     Ok(format!(in heap; "{n}")?)
 }

@@ -33,9 +33,7 @@ fn confirm(rows: &[i64], table: &[i64], guess: &[i64], moved: &mut [i64]) -> Opt
     }
     let mut made = [0i64; 2];
     let mut grown = [0i64; 2];
-    Some(fixpoint::confirm(
-        &program, table, guess, moved, &mut made, &mut grown, 100,
-    ))
+    Some(fixpoint::confirm(&program, table, guess, moved, &mut made, &mut grown, 100))
 }
 
 #[test]

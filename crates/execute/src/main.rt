@@ -87,7 +87,10 @@ fn run(rt: &HostRuntime, program: String, table: String, steps: u32) -> Result<S
     let mut rows = vec![in heap; 0i64; report::NUMBERS]?;
     let mut numbers = vec![in heap; 0i64; report::TABLE]?;
     let mut asked = vec![in heap; 0i64; report::SHOWN]?;
-    let program = report::load_program(report::read_text(rt, Some(program), &mut text)?, &mut rows)?;
+    let program = report::load_program(
+        report::read_text(rt, Some(program), &mut text)?,
+        &mut rows,
+    )?;
     let table = report::load_table(
         report::read_text(rt, Some(table), &mut text)?,
         program.rows(),
