@@ -1,18 +1,12 @@
 -- Tables in lent numbers, what a hop that is joined in leaves of them, and what a round promises.
-use Rattle.std.specs.Prelude.{◌≡◌, ℕ, ◌+◌, ◌<◌, Bool, true, false, not, ◌||◌, List, ℤ, slice_set}
-use Rattle.program.specs.declared.Step.{Step}
+use Rattle.std.specs.Prelude.{◌≡◌, ℕ, ◌+◌, ◌<◌, Bool, true, false, not, List, ℤ, slice_set}
 use Rattle.program.specs.declared.Counts.{Counts}
 use Rattle.program.specs.Program.{Prog, counts_of}
-use Rattle.program.specs.Rows.{Program}
-use Rattle.interval.specs.declared.Way.{Way}
-use Rattle.interval.specs.declared.Way.TheVariants.{Jump, Next}
 use Rattle.interval.specs.Ranges.{At}
 use Rattle.table.specs.Tables.{Table, at}
 use Rattle.table.specs.Rows.{row_t, table_of}
-use Rattle.table.specs.Hops.{lands}
-use Rattle.fixpoint.specs.Hops.{after}
 use Rattle.fixpoint.specs.Least.{Least, Sound}
-use Rattle.fixpoint.specs.Rounds.{join_at, covers, Round, join_into, round, room}
+use Rattle.fixpoint.specs.Rounds.{join_at, covers, round, room}
 use Rattle.fixpoint.specs.Ways.{Leads}
 use Rattle.fixpoint.specs.Says.{LeastParts}
 

@@ -1,20 +1,15 @@
 -- Confirming in lent numbers: what a hop moves, and what confirming promises.
-use Rattle.std.specs.Prelude.{◌≡◌, ℕ, ◌+◌, ◌≤◌, Bool, true, cond, ◌||◌, List, ℤ, slice_set}
-use Rattle.program.specs.declared.Step.{Step}
+use Rattle.std.specs.Prelude.{◌≡◌, ℕ, ◌+◌, ◌≤◌, Bool, true, cond, List, ℤ, slice_set}
 use Rattle.program.specs.declared.Counts.{Counts}
 use Rattle.program.specs.Program.{Prog, counts_of}
-use Rattle.program.specs.Rows.{Program}
-use Rattle.interval.specs.declared.Way.{Way}
-use Rattle.interval.specs.declared.Way.TheVariants.{Jump, Next}
 use Rattle.interval.specs.Ranges.{At}
 use Rattle.table.specs.declared.Hop.{Hop}
 use Rattle.table.specs.Tables.{Table, at}
 use Rattle.fixpoint.specs.declared.guess.Confirmed.{Confirmed}
-use Rattle.table.specs.Hops.{lands}
 use Rattle.fixpoint.specs.Hops.{after}
 use Rattle.fixpoint.specs.Least.{Sound}
 use Rattle.fixpoint.specs.Rounds.{room}
-use Rattle.fixpoint.specs.Confirming.{moved_at, wider_at, Confirming, confirm_at, sweeps_of, reached, Confirms}
+use Rattle.fixpoint.specs.Confirming.{moved_at, wider_at, sweeps_of, reached, Confirms}
 use Rattle.fixpoint.specs.Ways.{Leads}
 use Rattle.fixpoint.specs.Joining.{table_in}
 

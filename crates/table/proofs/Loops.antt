@@ -12,7 +12,7 @@ use Rattle.interval.specs.Ranges.{Box, At, never, within, only}
 use Rattle.interval.specs.Boxes.{box_of}
 use Rattle.table.specs.declared.fault.Fault.{Fault}
 use Rattle.table.specs.declared.fault.Fault.TheVariants.{Flag, Blank}
-use Rattle.table.specs.Tables.{zeros, target, words_of}
+use Rattle.table.specs.Tables.{zeros, words_of}
 use Rattle.table.specs.Rows.{width, is_number, place_of, place_in}
 use Rattle.table.specs.declared.hops.Hop.{Hop}
 use Rattle.table.specs.Hops.{ways, hops_from}

@@ -1,4 +1,4 @@
-use Rattle.std.proofs.Common.{◌≤◌, false, sym, ap, ◌∙◌, subst, arith}
+use Rattle.std.proofs.Common.{false, sym, ap, ◌∙◌, subst, arith}
 use Rattle.std.specs.List.{AllByRecursion}
 use Rattle.program.specs.Program.{counts_of}
 use Rattle.program.specs.Rows.{row_p}
