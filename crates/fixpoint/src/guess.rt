@@ -32,7 +32,6 @@ fn move_hop(
     made: &mut [i64],
     grown: &mut [i64],
 ) -> bool
-    requires few { counts.vars ≤ 64 }
     requires long { length table.old ≡ wants counts }
     requires guess { length guess.now ≡ wants counts }
     requires made { length made.old ≡ 2 * counts.vars }

@@ -58,7 +58,6 @@ fn join_row(row: &mut [i64], made: &[i64]) -> bool
 
 #[tactic(auto, using(crate::proofs::Places::places))]
 pub fn join_place(table: &mut [i64], counts: Counts, n: usize, made: &[i64]) -> bool
-    requires few { counts.vars ≤ 64 }
     requires long { length table.old ≡ wants counts }
     requires place { n ≤ counts.steps }
     requires there { n * width counts.vars + width counts.vars ≤ length table.old }

@@ -32,7 +32,6 @@ pub fn make<'a>(
     words: u32,
     out: &'a mut [i64],
 ) -> Option<&'a [i64]>
-    requires few { counts.vars ≤ 64 }
     requires long { length table.now ≡ wants counts }
     requires room { length out.old ≡ 2 * counts.vars }
     requires here { hop.from.0 ≤ counts.steps }

@@ -75,7 +75,6 @@ pub(crate) fn move_place(
     made: &[i64],
     grown: &[i64],
 ) -> bool
-    requires few { counts.vars ≤ 64 }
     requires long { length table.old ≡ wants counts }
     requires place { n ≤ counts.steps }
     requires guess { length guess.now ≡ wants counts }

@@ -35,7 +35,6 @@ pub(crate) fn note_place(
     made: &[i64],
     hop: i64,
 )
-    requires few { vars ≤ 64 }
     requires notes { n * width vars + width vars ≤ length notes.old }
     requires there { n * width vars + width vars ≤ length table.now }
 {

@@ -23,7 +23,6 @@ fn join_hop(
     out: &mut [i64],
     notes: &mut [i64],
 ) -> bool
-    requires few { counts.vars ≤ 64 }
     requires long { length table.old ≡ wants counts }
     requires room { length out.old ≡ 2 * counts.vars }
     requires notes { length notes.old ≡ wants counts }

@@ -41,7 +41,6 @@ fn lower_place(
     notes: &[i64],
     hop: i64,
 ) -> bool
-    requires few { vars ≤ 64 }
     requires guess { n * width vars + width vars ≤ length guess.old }
     requires table { n * width vars + width vars ≤ length table.now }
     requires notes { n * width vars + width vars ≤ length notes.now }
@@ -61,7 +60,6 @@ fn lower_hop(
     notes: &[i64],
     made: &mut [i64],
 ) -> bool
-    requires few { counts.vars ≤ 64 }
     requires short { counts.steps ≤ 4096 }
     requires guess { length guess.old ≡ wants counts }
     requires table { length table.now ≡ wants counts }

@@ -12,7 +12,6 @@ use program::Counts;
 // Joins a place of the guess into the table.
 #[tactic(auto, using(fixpoint::proofs::Places::places, fixpoint::proofs::Hopping::nothing_joined))]
 fn take_place(table: &mut [i64], counts: Counts, n: usize, guess: &[i64])
-    requires few { counts.vars ≤ 64 }
     requires long { length table.old ≡ wants counts }
     requires guess { length guess.now ≡ wants counts }
     requires place { n ≤ counts.steps }
@@ -29,7 +28,6 @@ fn take_place(table: &mut [i64], counts: Counts, n: usize, guess: &[i64])
 // The table becomes the guess, which contains it and comes to the same places.
 #[tactic(auto, using(crate::proofs::Mixed::mixes))]
 pub(crate) fn take_over(table: &mut [i64], counts: Counts, guess: &[i64])
-    requires few { counts.vars ≤ 64 }
     requires small { counts.steps ≤ 4096 }
     requires long { length table.old ≡ wants counts }
     requires guess { length guess.now ≡ wants counts }

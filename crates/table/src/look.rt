@@ -18,9 +18,7 @@ use crate::place::{check_row, covered, is_known, row_bounds, row_of};
 use program::{Array, Program, Step};
 
 fn check_rows(table: &[i64], vars: usize, places: usize) -> Result<(), Fault>
-    requires few { vars ≤ 64 }
-    requires there { places * width vars ≤ length table.now }
-    requires small { places ≤ 4097 }
+    requires { places * width vars ≤ length table.now }
     ensures { result ≡ unless (rows_fault vars 0 table.now places) }
 {
     for n in 0..places {
@@ -41,7 +39,6 @@ fn check_start(table: &[i64], vars: usize) -> Result<(), Fault>
 
 // Whether the place to which a hop leads has what the hop makes there. `words` is the length of the array that its step names.
 fn check_hop(table: &[i64], vars: usize, hop: Hop, words: u32, out: &mut [i64]) -> Result<(), Fault>
-    requires few { vars ≤ 64 }
     requires room { length out.old ≡ 2 * vars }
     requires here { hop.from.0 * width vars + width vars ≤ length table.now }
     requires there { hop.to.0 * width vars + width vars ≤ length table.now }

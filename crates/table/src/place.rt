@@ -13,8 +13,7 @@ use std::ops::Range;
 
 // Where the row of a place stands in a table. This alone knows.
 pub fn row_bounds(vars: usize, n: usize) -> Range<usize>
-    requires few { vars ≤ 64 }
-    requires fits { n * width vars + width vars < 2 ^ 64 }
+    requires { n * width vars + width vars < 2 ^ 64 }
     ensures start { result.start ≡ n * width vars }
     ensures end { result.end ≡ n * width vars + width vars }
 {
@@ -25,8 +24,7 @@ pub fn row_bounds(vars: usize, n: usize) -> Range<usize>
 
 // The row of a place.
 pub fn row_of(table: &[i64], vars: usize, n: usize) -> &[i64]
-    requires few { vars ≤ 64 }
-    requires there { n * width vars + width vars ≤ length table.now }
+    requires { n * width vars + width vars ≤ length table.now }
     ensures row { result.now ≡ take (width vars) (drop (n * width vars) table.now) }
     ensures long { length result.now ≡ width vars }
 {
@@ -83,7 +81,7 @@ fn not_zero(numbers: &[i64]) -> Option<usize>
 // Whether the row of a place, which begins at k, is one of a table.
 pub(crate) fn check_row(row: &[i64], k: usize) -> Result<(), Fault>
     requires some { 0 < length row.now }
-    requires fits { k < 2 ^ 32 }
+    requires fits { k + length row.now < 2 ^ 64 }
     ensures { result ≡ unless (row_fault k row.now) }
 {
     if is_known(row) {

@@ -27,7 +27,6 @@ returns-in_default-make c =
 
 pub move_place-requires : goal.move_place-requires
 move_place-requires c = record {
-  few = c.requires.few;
   long = c.requires.long;
   place = c.requires.there;
   guess = c.requires.guess;

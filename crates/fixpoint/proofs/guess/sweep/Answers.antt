@@ -28,7 +28,6 @@ move_hop-moved-requires c =
     let p = c.args.program.now in
     let hop = (subst (AllByRecursion (IsHop p)) c.in-Some.ensures.steps c.loop-hop.invariant.hops).0 in
     rw c.counts-counts.ensures.exact record {
-      few = few_vars (row_p p) p c.of-hop-items.ensures.fine;
       long = c.loop-hop.auto.table ∙ c.requires.long;
       guess = c.requires.guess;
       made = c.loop-hop.auto.made ∙ c.requires.made;

@@ -5,7 +5,7 @@ use Rattle.fixpoint.proofs.Hopping.{at_never, after_known}
 use Rattle.fixpoint.proofs.making.make.Goals as goal
 
 pub row_of-row-requires : goal.row_of-row-requires
-row_of-row-requires c = record { few = c.requires.few; there = row_within c.args.counts c.args.hop.from.0 c.args.table.now c.requires.long c.requires.here }
+row_of-row-requires c = row_within c.args.counts c.args.hop.from.0 c.args.table.now c.requires.long c.requires.here
 
 pub returns-then-not-is_known-clause-made : goal.returns-then-not-is_known-clause-made
 returns-then-not-is_known-clause-made c =

@@ -8,14 +8,12 @@ returns-in_default c = nothing_joined c.args.counts c.args.hop.to.0 c.args.table
 
 pub note_place-requires : goal.note_place-requires
 note_place-requires c = record {
-  few = c.requires.few;
   notes = row_within c.args.counts c.args.hop.to.0 c.args.notes.now c.requires.notes c.requires.there;
   there = row_within c.args.counts c.args.hop.to.0 c.args.table.now c.requires.long c.requires.there;
 }
 
 pub join_place-requires : goal.join_place-requires
 join_place-requires c = record {
-  few = c.requires.few;
   long = c.requires.long;
   place = c.requires.there;
   there = row_within c.args.counts c.args.hop.to.0 c.args.table.now c.requires.long c.requires.there;

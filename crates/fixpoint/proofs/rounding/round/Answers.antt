@@ -29,7 +29,6 @@ join_hop-changed-requires c =
     let fine = c.of-hop-items.ensures.fine in
     let hop = (subst (AllByRecursion (IsHop p)) c.in-Some.ensures.steps c.loop-hop.invariant.hops).0 in
     rw c.counts-counts.ensures.exact record {
-      few = few_vars (row_p p) p fine;
       long = c.loop-hop.auto.table ∙ c.requires.long;
       room = c.loop-hop.auto.out ∙ c.requires.room;
       notes = c.loop-hop.auto.notes ∙ c.requires.notes;

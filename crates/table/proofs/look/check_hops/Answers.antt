@@ -26,7 +26,6 @@ check_hop-requires c =
     let hop = (subst (AllByRecursion (IsHop p)) c.in-Some.ensures.steps c.loop-hop.invariant.0).0 in
     let all : (length p.code + 1) * w ≤ length c.args.table.now = omega (arith, c.requires.long) in
     rw vars record {
-      few = few_vars (row_p p) p fine;
       room = c.loop-hop.auto.out ∙ c.requires.room;
       here = row_there c.in-Some.hop.from.0 (length p.code + 1) w (length c.args.table.now) (omega (arith, hop.from)) all;
       there = row_there c.in-Some.hop.to.0 (length p.code + 1) w (length c.args.table.now) (omega (arith, hop.to)) all;

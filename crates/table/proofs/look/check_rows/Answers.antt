@@ -1,4 +1,4 @@
-use Rattle.std.proofs.Common.{◌≡◌, suc, ◌+◌, ◌-◌, ◌*◌, take, drop, Err, Some, None, sym, ap, ◌∙◌, ◌≤◌, mul-le-mul, zero-mul, add-mul, one-mul, arith}
+use Rattle.std.proofs.Common.{◌≡◌, suc, ◌+◌, ◌-◌, ◌*◌, take, drop, Err, Some, None, sym, ap, ◌∙◌, ◌^◌, ◌<◌, length, zero-mul, add-mul, one-mul, arith, rules}
 use Rattle.std.proofs.lemmas.Result.{err_from_is_err_and}
 use Rattle.table.specs.Rows.{width}
 use Rattle.table.specs.Looking.{or_else, row_fault, rows_fault, unless}
@@ -11,14 +11,13 @@ loop-n-init c =
     ap (λ k. rows_fault c.args.vars k c.args.table.now (c.args.places - 0)) (zero-mul (width c.args.vars)) ∙ ap (rows_fault c.args.vars 0 c.args.table.now) none
 
 pub row_of-requires : goal.row_of-requires
-row_of-requires c = record { few = c.requires.few; there = row_there c.loop-n.n c.args.places (width c.args.vars) _ c.loop-n-test.true c.requires.there }
+row_of-requires c = row_there c.loop-n.n c.args.places (width c.args.vars) _ c.loop-n-test.true c.requires
 
 pub check_row-requires : goal.check_row-requires
 check_row-requires c =
-    let w = width c.args.vars in
-    let few : c.loop-n.n ≤ 4096 = omega (arith, c.loop-n-test.true, c.requires.small) in
-    let narrow : w ≤ 129 = omega (arith, c.requires.few) in
-    record { some = omega (arith, c.row_of.ensures.long); fits = omega (arith, mul-le-mul few narrow) }
+    let there = row_there c.loop-n.n c.args.places (width c.args.vars) _ c.loop-n-test.true c.requires in
+    let long : length c.args.table.now < 2 ^ 64 = search rules in
+    record { some = omega (arith, c.row_of.ensures.long); fits = omega (arith, long, there, c.row_bounds.ensures.start, c.row_of.ensures.long) }
 
 pub returns-in_err-check_row : goal.returns-in_err-check_row
 returns-in_err-check_row c =
