@@ -1,6 +1,6 @@
 // What a hop makes of a table.
 
-ghost use Rattle.std.specs.Prelude.{◌≡◌, ◌*◌, ◌≤◌, length, IfSome};
+ghost use Rattle.std.specs.Prelude.{◌≡◌, ◌*◌, ◌^◌, ◌<◌, ◌≤◌, length, IfSome};
 ghost use Rattle.interval.specs.Boxes.{at_in};
 ghost use Rattle.table.specs.Tables.{at};
 ghost use Rattle.table.specs.Rows.{wants};
@@ -13,7 +13,7 @@ use table::Hop;
 
 // The number of a hop, from 1 on: what lent numbers can note of it.
 pub fn hop_number(hop: Hop) -> i64
-    requires { hop.from.0 ≤ 4096 }
+    requires { hop.from.0 < 2 ^ 61 }
 {
     let first = 1 + 2 * hop.from.0 as i64;
     match hop.way {

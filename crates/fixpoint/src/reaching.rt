@@ -51,7 +51,6 @@ fn reached_row(b: &[i64], guess: &[i64], moved: &[i64]) -> bool
 
 #[tactic(auto, using(crate::proofs::Reaches::reaches))]
 pub(crate) fn reached(table: &[i64], counts: Counts, guess: &[i64], moved: &[i64]) -> bool
-    requires small { counts.steps ≤ 4096 }
     requires long { length table.now ≡ wants counts }
     requires guess { length guess.now ≡ wants counts }
     requires moved { length moved.now ≡ wants counts }

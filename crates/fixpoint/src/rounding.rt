@@ -26,7 +26,6 @@ fn join_hop(
     requires long { length table.old ≡ wants counts }
     requires room { length out.old ≡ 2 * counts.vars }
     requires notes { length notes.old ≡ wants counts }
-    requires short { counts.steps ≤ 4096 }
     requires here { hop.from.0 ≤ counts.steps }
     requires there { hop.to.0 ≤ counts.steps }
     ensures { Joined counts hop.to.0 (after words hop.way hop.step (at (table_in counts table.old) hop.from.0)) table.old table.new result }

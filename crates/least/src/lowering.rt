@@ -60,7 +60,6 @@ fn lower_hop(
     notes: &[i64],
     made: &mut [i64],
 ) -> bool
-    requires short { counts.steps ≤ 4096 }
     requires guess { length guess.old ≡ wants counts }
     requires table { length table.now ≡ wants counts }
     requires notes { length notes.now ≡ wants counts }

@@ -31,7 +31,6 @@ fn raise_place(guess: &mut [i64], vars: usize, n: usize, notes: &[i64])
 
 #[tactic(auto, using(fixpoint::proofs::Places::row_within))]
 pub(crate) fn raise(guess: &mut [i64], counts: Counts, notes: &[i64])
-    requires small { counts.steps ≤ 4096 }
     requires guess { length guess.old ≡ wants counts }
     requires notes { length notes.now ≡ wants counts }
 {

@@ -28,7 +28,6 @@ fn take_place(table: &mut [i64], counts: Counts, n: usize, guess: &[i64])
 // The table becomes the guess, which contains it and comes to the same places.
 #[tactic(auto, using(crate::proofs::Mixed::mixes))]
 pub(crate) fn take_over(table: &mut [i64], counts: Counts, guess: &[i64])
-    requires small { counts.steps ≤ 4096 }
     requires long { length table.old ≡ wants counts }
     requires guess { length guess.now ≡ wants counts }
     ensures taken { Over (table_in counts table.old) (table_in counts guess.now) → table_in counts table.new ≡ table_in counts guess.now }

@@ -32,7 +32,6 @@ join_hop-changed-requires c =
       long = c.loop-hop.auto.table ∙ c.requires.long;
       room = c.loop-hop.auto.out ∙ c.requires.room;
       notes = c.loop-hop.auto.notes ∙ c.requires.notes;
-      short = few_steps (row_p p) p fine;
       here = omega (arith, hop.from);
       there = hop.to;
     }

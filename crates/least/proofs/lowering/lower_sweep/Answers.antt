@@ -17,7 +17,6 @@ lower_hop-changed-requires c =
     let fine = c.of-hop-items.ensures.fine in
     let hop = (subst (AllByRecursion (IsHop p)) c.in-Some.ensures.steps c.loop-hop.invariant).0 in
     rw c.counts-counts.ensures.exact record {
-      short = few_steps (row_p p) p fine;
       guess = c.loop-hop.auto.guess ∙ c.requires.guess;
       table = c.requires.table;
       notes = c.requires.notes;
