@@ -1,4 +1,8 @@
 // The least table that holds, and going round to it.
+//
+// A table is a lent slice beside its program's counts, and contracts ask for its length. Tried as a struct with that length for an
+// invariant: each function would have to promise besides that the struct goes on to hold the same slice and counts, which is no
+// plainer.
 #![tactic(auto)]
 
 mod begin;

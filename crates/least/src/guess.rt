@@ -11,7 +11,8 @@ use crate::lowering::lower;
 use crate::raising::raise;
 use program::Program;
 
-// What came of a guess: whether it was confirmed, whether that was so at the first try, and the sweeps that it took.
+// What came of a guess: whether it was confirmed, whether that was so at the first try, and the sweeps that it took. They count
+// either way, so this is no Option of them.
 #[derive(Clone, Copy)]
 pub(crate) struct Guessed {
     pub(crate) yes: bool,
@@ -41,6 +42,7 @@ fn settle(
 {
     let mut sweeps = 0u64;
     let mut first = true;
+    // as many tries as there are ends: a bound, and no index
     for _ in 0..table.len() {
         sweeps = sweeps.saturating_add(lower(program, guess, table, notes, made));
         let ends = widened(table, guess);

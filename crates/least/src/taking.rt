@@ -33,7 +33,8 @@ pub(crate) fn take_over(table: &mut [i64], counts: Counts, guess: &[i64])
     ensures taken { Over (table_in counts table.old) (table_in counts guess.now) → table_in counts table.new ≡ table_in counts guess.now }
     ensures writes { Writes counts table.old table.new }
 {
-    // Not `0..=counts.steps`, which wants a proof of its last place besides.
+    // a slice's rows one after another can't be written so that what they become is known; and `0..=counts.steps` wants a proof
+    // of its last place besides
     for n in 0..counts.steps + 1 {
         take_place(table, counts, n, guess);
     }

@@ -10,7 +10,7 @@ ghost use Rattle.machine.specs.Marks.{mark, sure_of, offset_of, marks_from};
 
 use program::Program;
 
-// A mark as it lies among the numbers that are lent.
+// A mark as it lies among the numbers that are lent, which are all the memory there is: so it is a number.
 #[derive(Clone, Copy)]
 pub struct Mark(pub i64);
 

@@ -25,6 +25,7 @@ impl Wide {
         Wide(i128::from(a) * i128::from(b))
     }
 
+    // the order that is derived, in the definitions' own words
     pub fn less(self, other: Wide) -> bool
         ensures { result ≡ less_z (value_of self) (value_of other) }
     {

@@ -163,6 +163,7 @@ fn words(rows: &[i64], arrays: usize) -> Result<usize, Refusal>
     ensures { result ≡ words_in rows.now arrays }
 {
     let mut sum = 0;
+    // k is an array's name, and the place of a refusal
     for k in 0..arrays {
         sum += array_length(rows, Array(k))?;
     }

@@ -18,7 +18,8 @@ pub const SHOWN: usize = 16384;
 
 pub const WORK: usize = 397568;
 
-// What comes until the buffer is full or nothing more comes, in front of the buffer.
+// What comes until the buffer is full or nothing more comes, in front of the buffer. `read_to_end` would let a buffer of its own
+// grow; this one is lent, of a fixed size.
 fn fill<'a, R: Read>(from: &mut R, buffer: &'a mut [u8]) -> io::Result<&'a [u8]>
     ensures { IfOk result (λ text. length text.now ≤ length buffer.old) }
 {

@@ -21,6 +21,7 @@ fn check_rows(table: &[i64], vars: usize, places: usize) -> Result<(), Fault>
     requires { places * width vars ≤ length table.now }
     ensures { result ≡ unless (rows_fault vars 0 table.now places) }
 {
+    // n is a place, and tells where its row begins
     for n in 0..places {
         check_row(row_of(table, vars, n), row_bounds(vars, n).start)?;
     }
@@ -33,6 +34,7 @@ fn check_start(table: &[i64], vars: usize) -> Result<(), Fault>
     requires there { width vars ≤ length table.now }
     ensures { result ≡ unless (option_map Start (missed (within (zeros vars)) (place_in vars table.now 0))) }
 {
+    // no heap: room for the most variables that a program may have
     let numbers = [0i64; 128];
     covered(&numbers[0..2 * vars], row_of(table, vars, 0)).map_err(Fault::Start)
 }
