@@ -111,7 +111,7 @@ impl Range {
     }
 }
 
-// A range whose ends have 128 bits.
+// A range whose ends have 128 bits. It shares no function with `Range`, so one generic type would be no plainer.
 #[derive(Clone, Copy)]
 pub(crate) struct WideRange {
     lo: Wide,
