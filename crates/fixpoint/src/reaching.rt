@@ -56,6 +56,7 @@ pub(crate) fn reached(table: &[i64], counts: Counts, guess: &[i64], moved: &[i64
     requires moved { length moved.now ≡ wants counts }
     ensures { result ≡ reached (table_in counts table.now) (table_in counts guess.now) (table_in counts moved.now) }
 {
+    // three tables by one place: rows zipped would be no plainer
     for n in 0..=counts.steps {
         let row = table::row_of(table, counts.vars, n);
         let goal = table::row_of(guess, counts.vars, n);

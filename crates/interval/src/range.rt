@@ -103,15 +103,15 @@ impl Range {
     {
         let a = Wide::product(c, self.lo);
         let b = Wide::product(c, self.hi);
-        if b.less(a) {
-            WideRange { lo: b, hi: a }
-        } else {
-            WideRange { lo: a, hi: b }
+        WideRange {
+            lo: a.min(b),
+            hi: a.max(b),
         }
     }
 }
 
-// A range whose ends have 128 bits. It shares no function with `Range`, so one generic type would be no plainer.
+// A range whose ends have 128 bits. No function is the same for it and `Range`, so one generic type would be no
+// plainer.
 #[derive(Clone, Copy)]
 pub(crate) struct WideRange {
     lo: Wide,
@@ -120,7 +120,7 @@ pub(crate) struct WideRange {
 
 impl WideRange {
     // What is left in 64 bits.
-    pub(crate) fn cut(self) -> Option<Range>
+    pub(crate) fn cut64(self) -> Option<Range>
         ensures { result ≡ left (cut (range_of self) any) }
     {
         let lo = self.lo.narrow().or(self.lo.negative().then_some(i64::MIN))?;

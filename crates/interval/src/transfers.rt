@@ -70,13 +70,13 @@ fn go_on(step: Step, words: u32, numbers: &mut [i64]) -> Option<()>
         }
         Step::Add(x, a, b) => {
             let r = operand_range(numbers, a).plus(operand_range(numbers, b));
-            hold(numbers, x, r.cut())
+            hold(numbers, x, r.cut64())
         }
         Step::Sub(x, a, b) => {
             let r = operand_range(numbers, a).minus(operand_range(numbers, b));
-            hold(numbers, x, r.cut())
+            hold(numbers, x, r.cut64())
         }
-        Step::Mul(x, c, e) => hold(numbers, x, operand_range(numbers, e).scaled(c).cut()),
+        Step::Mul(x, c, e) => hold(numbers, x, operand_range(numbers, e).scaled(c).cut64()),
         Step::Load(x, _, e) => {
             narrow(numbers, e, Range::places(words))?;
             set_range(numbers, x, Range::ANY);
@@ -94,7 +94,7 @@ fn go_on(step: Step, words: u32, numbers: &mut [i64]) -> Option<()>
 }
 
 // What is known where a step leads if `from` was known before it, in `out`, if anything comes there. `words` is the length
-// of the array that the step names.
+// of the array that the step names. No hop is asked for, as it has places, which ranges don't depend on.
 #[inline(always)]
 pub fn transfer<'a>(
     step: Step,

@@ -12,7 +12,7 @@ use crate::raising::raise;
 use program::Program;
 
 // What came of a guess: whether it was confirmed, whether that was so at the first try, and the sweeps that it took. They count
-// either way, so this is no Option of them.
+// either way, and the first try counts only where it was confirmed, so this is no Option of them.
 #[derive(Clone, Copy)]
 pub(crate) struct Guessed {
     pub(crate) yes: bool,

@@ -1,4 +1,4 @@
-// The least table of a program, found.
+// The least table of a program, found. A table is a slice beside its program's counts here too, as `fixpoint` says.
 #![tactic(auto)]
 
 mod call;

@@ -1,7 +1,7 @@
 // Raising the ends of a guess to the ends of 64 bits.
 
-ghost use Rattle.std.specs.Prelude.{◌≡◌, ◌+◌, ◌*◌, ◌≤◌, length};
-ghost use Rattle.table.specs.Rows.{width, wants};
+ghost use Rattle.std.specs.Prelude.{◌≡◌, length};
+ghost use Rattle.table.specs.Rows.{wants};
 
 use program::{Counts, Var};
 
@@ -20,21 +20,12 @@ fn raise_box(guess: &mut [i64], notes: &[i64]) {
     }
 }
 
-fn raise_place(guess: &mut [i64], vars: usize, n: usize, notes: &[i64])
-    requires guess { n * width vars + width vars ≤ length guess.old }
-    requires notes { n * width vars + width vars ≤ length notes.now }
-{
-    let row = table::row_of(notes, vars, n);
-    let ends = &mut guess[table::row_bounds(vars, n)];
-    raise_box(&mut ends[1..], &row[1..]);
-}
-
-#[tactic(auto, using(fixpoint::proofs::Places::row_within))]
 pub(crate) fn raise(guess: &mut [i64], counts: Counts, notes: &[i64])
     requires guess { length guess.old ≡ wants counts }
     requires notes { length notes.now ≡ wants counts }
 {
-    for n in 0..=counts.steps {
-        raise_place(guess, counts.vars, n, notes);
+    let width = 1 + 2 * counts.vars;
+    for (row, note) in guess.chunks_exact_mut(width).zip(notes.chunks_exact(width)) {
+        raise_box(&mut row[1..], &note[1..]);
     }
 }

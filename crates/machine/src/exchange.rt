@@ -18,6 +18,7 @@ pub(crate) fn ask(asked: &[i64], taken: usize) -> (i64, usize)
 pub(crate) fn show(shown: &mut [i64], count: usize, v: i64) -> Option<()>
     ensures { option_map (λ _. shown.new) result ≡ (if nat_lt count (length shown.old) then Some (slice_set shown.old count v) else None) }
 {
+    // not by `get_mut`, after which no clause says what the slice holds
     if count >= shown.len() {
         return None;
     }

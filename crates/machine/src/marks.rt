@@ -10,7 +10,8 @@ ghost use Rattle.machine.specs.Marks.{mark, sure_of, offset_of, marks_from};
 
 use program::Program;
 
-// A mark as it lies among the numbers that are lent, which are all the memory there is: so it is a number.
+// A mark as it lies among the numbers that are lent, which are all the memory there is: so it is a number, and packed by `as`,
+// which is proved to lose nothing; a `try_from` would be a test at each step of a run.
 #[derive(Clone, Copy)]
 pub struct Mark(pub i64);
 

@@ -33,7 +33,7 @@ fn two(row: &[i64]) -> (usize, Operand, Operand)
     (index(row, 1), operand(row, 2), operand(row, 4))
 }
 
-// The step whose row these numbers begin with.
+// The step whose row these numbers begin with. A kind is a number in rows alone, and is a step at once.
 fn first_step(row: &[i64]) -> Step
     requires { Begins row_i row.now }
     ensures { Fetched row_i row.now result }

@@ -25,7 +25,7 @@ impl Wide {
         Wide(i128::from(a) * i128::from(b))
     }
 
-    // the order that is derived, in the definitions' own words
+    // The order that is derived, and below a sign and a narrowing, by the names that contracts have for them.
     pub fn less(self, other: Wide) -> bool
         ensures { result ≡ less_z (value_of self) (value_of other) }
     {

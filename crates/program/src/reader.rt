@@ -134,7 +134,7 @@ fn step_in(row: &[i64], counts: Counts) -> Result<Step, Refusal>
     }
 }
 
-// The step at an offset of the rows, and where the next one begins.
+// The step at an offset of the rows, and where the next one begins. Of any rows: a `Program` would ask more.
 pub fn step_at(rows: &[i64], counts: Counts, at: usize) -> Result<(Step, usize), Refusal>
     ensures { result ≡ next_at counts rows.now at }
 {
@@ -186,7 +186,7 @@ fn header(rows: &[i64]) -> Result<Counts, Refusal>
     })
 }
 
-// Where the steps end.
+// Where the steps end. The rows are no `Program` before it is known.
 fn steps_end(rows: &[i64], counts: Counts) -> Result<usize, Refusal>
     requires { counts.arrays ≤ 16 }
     ensures { result ≡ end_in counts rows.now }

@@ -18,8 +18,8 @@ lands n i Next = n + 1
 abbrev pub hop : ℕ → Step → Way → Hop
 hop n i w = record { from = record { 0 = n }; to = record { 0 = lands n i w }; step = i; way = w }
 
--- The hops of a step at the n-th place, but for ways by which nothing comes whatever is known there; of steps from that place on;
--- and of a program.
+-- The hops of a step at the n-th place, but for ways that it hasn't, by which nothing comes; `stop` has one all the same. Those of
+-- steps from that place on; and of a program.
 abbrev pub ways : ℕ → Step → List Hop
 ways n (Set x e) = hop n (Set x e) Next ∷ []
 ways n (Add x e f) = hop n (Add x e f) Next ∷ []

@@ -1,5 +1,5 @@
-// The hops of a program: its steps with the ways out of them, in the order of places. Where a step has no such way, nothing comes
-// by it, and it is left out.
+// The hops of a program: its steps with the ways out of them, in the order of places. A way that a step hasn't is left out, as
+// nothing comes by it; only `stop` has a hop all the same, so that each step has one.
 
 ghost use Rattle.std.specs.Prelude.{◌≡◌, ◌<◌};
 ghost use Rattle.std.specs.Iterator.{YieldsFirst, item_count};

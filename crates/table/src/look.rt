@@ -100,6 +100,7 @@ fn check_table(program: &Program, table: &[i64]) -> Result<(), Fault>
     }
     check_rows(table, counts.vars, counts.steps + 1)?;
     check_start(table, counts.vars)?;
+    // room for the most variables, as nothing is allocated
     let mut numbers = [0i64; 128];
     check_hops(program, table, &mut numbers[0..2 * counts.vars])
 }

@@ -11,7 +11,7 @@ use crate::fault::{Fault, Miss};
 use program::Var;
 use std::ops::Range;
 
-// Where the row of a place stands in a table. This alone knows.
+// Where the row of a place stands in a table.
 pub fn row_bounds(vars: usize, n: usize) -> Range<usize>
     requires { n * width vars + width vars < 2 ^ 64 }
     ensures start { result.start ≡ n * width vars }
@@ -53,7 +53,7 @@ fn covered_box(a: &[i64], b: &[i64]) -> Result<(), Miss>
     Ok(())
 }
 
-// Whether a place of the table has a box.
+// Whether the row of a place contains a box.
 pub(crate) fn covered(made: &[i64], row: &[i64]) -> Result<(), Miss>
     requires { length row.now ≡ length made.now + 1 }
     ensures { result ≡ unless (missed (within (box_of made.now)) (place_of row.now)) }

@@ -83,7 +83,8 @@ fn refused_at(text: &[u8], place: usize, reason: Reason) -> Refusal
 
 /// Puts the numbers of the text into the front of `numbers`, and says how many there are.
 ///
-/// The first word that is no number, or for which there is no room, is refused.
+/// The first word that is no number, or for which there is no room, is refused. The answer is no part of `numbers`, as the
+/// caller keeps the rest of it too.
 pub fn read(text: &[u8], numbers: &mut [i64]) -> Result<usize, Refusal>
     ensures { ReadPost text.now numbers.old numbers.new result }
 {

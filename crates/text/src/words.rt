@@ -72,6 +72,7 @@ fn next_word(text: &[u8], from: usize) -> Option<usize>
     ensures begins { IfSome result (λ at. separator (slice_index text.now at) ≡ false) }
 {
     let mut comment = false;
+    // by place, as a place is what is sought
     for at in from..text.len() {
         let byte = text[at];
         if comment {

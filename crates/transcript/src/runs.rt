@@ -47,6 +47,7 @@ pub fn run_text(
 {
     let room = shown.len();
     let there = work.len();
+    // how many were shown stands in the answer of a run, as `shown` is the caller's
     let ran = interpreter::run(rows, table, asked, steps, shown, work);
     match ran {
         Ran::Stopped(k, _) | Ran::Failed(_, k, _) | Ran::More(k, _) => lines(

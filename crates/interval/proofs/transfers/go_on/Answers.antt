@@ -8,4 +8,4 @@ pub returns-in-Mul : goal.returns-in-Mul
 returns-in-Mul c =
     let f : SFits w64 c.in-Mul.c = search rules in
     let r = range (box_of c.args.numbers.now) c.in-Mul.e in
-    rw c.in-Mul.is (c.hold-in-Mul.ensures (cut (scaled c.in-Mul.c r) any) (c.cut-in-Mul.ensures ∙ ap (λ q. left (cut q any)) (simp to_z-of_z at c.scaled.ensures ∙ ap (scaled c.in-Mul.c) c.operand_range-in-Mul.ensures)))
+    rw c.in-Mul.is (c.hold-in-Mul.ensures (cut (scaled c.in-Mul.c r) any) (c.cut64-in-Mul.ensures ∙ ap (λ q. left (cut q any)) (simp to_z-of_z at c.scaled.ensures ∙ ap (scaled c.in-Mul.c) c.operand_range-in-Mul.ensures)))

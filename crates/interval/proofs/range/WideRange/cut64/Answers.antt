@@ -5,7 +5,7 @@ use Rattle.std.proofs.lemmas.Int.{to_z-of_z}
 use Rattle.number.specs.Numbers.{value_of, low, high}
 use Rattle.interval.specs.Boxes.{left}
 use Rattle.interval.proofs.Ends.{lower-end, upper-end}
-use Rattle.interval.proofs.range.WideRange.cut.Goals as goal
+use Rattle.interval.proofs.range.WideRange.cut64.Goals as goal
 
 pub returns : goal.returns
 returns c =
