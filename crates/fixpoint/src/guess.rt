@@ -40,10 +40,10 @@ fn move_hop(
     requires there { hop.to.0 ≤ counts.steps }
     ensures { Moved counts hop.to.0 (moved_by words (table_in counts guess.now) hop (table_in counts table.old)) table.old table.new result }
 {
-    let Some(made) = make(guess, counts, hop, words, made) else {
+    let Some(()) = make(guess, counts, hop, words, made) else {
         return false;
     };
-    let Some(grown) = make(table, counts, hop, words, grown) else {
+    let Some(()) = make(table, counts, hop, words, grown) else {
         return false;
     };
     move_place(table, counts, hop.to.0, guess, made, grown)

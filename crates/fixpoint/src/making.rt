@@ -1,7 +1,7 @@
 // What a hop makes of a table.
 
-ghost use Rattle.std.specs.Prelude.{◌≡◌, ◌*◌, ◌^◌, ◌<◌, ◌≤◌, length, IfSome};
-ghost use Rattle.interval.specs.Boxes.{at_in};
+ghost use Rattle.std.specs.Prelude.{◌≡◌, ◌*◌, ◌^◌, ◌<◌, ◌≤◌, length};
+ghost use Rattle.interval.specs.Boxes.{at_of};
 ghost use Rattle.table.specs.Tables.{at};
 ghost use Rattle.table.specs.Rows.{wants};
 ghost use Rattle.fixpoint.specs.Hops.{after};
@@ -25,18 +25,11 @@ pub fn hop_number(hop: Hop) -> i64
 // Makes in `out` what is known where a hop leads, if anything comes there. `words` is the length of the array that its step
 // names.
 #[inline(always)]
-pub fn make<'a>(
-    table: &[i64],
-    counts: Counts,
-    hop: Hop,
-    words: u32,
-    out: &'a mut [i64],
-) -> Option<&'a [i64]>
+pub fn make(table: &[i64], counts: Counts, hop: Hop, words: u32, out: &mut [i64]) -> Option<()>
     requires long { length table.now ≡ wants counts }
     requires room { length out.old ≡ 2 * counts.vars }
     requires here { hop.from.0 ≤ counts.steps }
-    ensures made { at_in result ≡ after words hop.way hop.step (at (table_in counts table.now) hop.from.0) }
-    ensures long { IfSome result (λ r. length r.now ≡ 2 * counts.vars) }
+    ensures { at_of result out.new ≡ after words hop.way hop.step (at (table_in counts table.now) hop.from.0) }
 {
     let row = table::row_of(table, counts.vars, hop.from.0);
     if !table::is_known(row) {

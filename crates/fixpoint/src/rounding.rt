@@ -30,11 +30,11 @@ fn join_hop(
     requires there { hop.to.0 ≤ counts.steps }
     ensures { Joined counts hop.to.0 (after words hop.way hop.step (at (table_in counts table.old) hop.from.0)) table.old table.new result }
 {
-    let Some(made) = make(table, counts, hop, words, out) else {
+    let Some(()) = make(table, counts, hop, words, out) else {
         return false;
     };
-    note_place(notes, table, counts.vars, hop.to.0, made, hop_number(hop));
-    join_place(table, counts, hop.to.0, made)
+    note_place(notes, table, counts.vars, hop.to.0, out, hop_number(hop));
+    join_place(table, counts, hop.to.0, out)
 }
 
 // One round over the table of a program; the answer is whether anything changed. `out` has room for a box, and `notes` has for

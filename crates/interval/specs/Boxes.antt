@@ -1,6 +1,5 @@
 -- Boxes as numbers: from and to for each variable.
 use Rattle.std.specs.Prelude.{◌≡◌, cond, List, [], ◌∷◌, ℤ, Some, None, Option}
-use denote.Ref.{Bor}
 use Rattle.number.specs.Numbers.{value_of}
 use Rattle.program.specs.declared.Operand.{Operand}
 use Rattle.interval.specs.declared.range.Range.{Range}
@@ -16,11 +15,6 @@ box_of (a ∷ b ∷ s) = record { lo = a; hi = b } ∷ box_of s
 abbrev pub at_of : {A : Type 0} → Option A → List ℤ → At
 at_of (Some a) s = within (box_of s)
 at_of None s = never
-
--- the same of numbers that are lent
-abbrev pub at_in : Option (Bor (List ℤ)) → At
-at_in (Some r) = within (box_of r.now)
-at_in None = never
 
 -- a range, if anything is left of it
 abbrev pub left : Range → Option Range

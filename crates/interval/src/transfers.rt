@@ -1,9 +1,9 @@
 // What a step makes of a box, one way out of it at a time.
 
-ghost use Rattle.std.specs.Prelude.{◌≡◌, ℕ, ◌≤◌, length, pos, ◌+ℤ◌, ◌-ℤ◌, IfSome};
+ghost use Rattle.std.specs.Prelude.{◌≡◌, ℕ, ◌≤◌, length, pos, ◌+ℤ◌, ◌-ℤ◌};
 ghost use Rattle.number.specs.Numbers.{low, high};
 ghost use Rattle.interval.specs.Ranges.{if_less, if_not, makes};
-ghost use Rattle.interval.specs.Boxes.{box_of, at_of, at_in, Cut};
+ghost use Rattle.interval.specs.Boxes.{box_of, at_of, Cut};
 ghost use Rattle.interval.specs.declared.transfers.Way.TheVariants.{Jump, Next};
 
 use crate::boxes::{hold, narrow, operand_range, set_range};
@@ -96,21 +96,13 @@ fn go_on(step: Step, words: u32, numbers: &mut [i64]) -> Option<()>
 // What is known where a step leads if `from` was known before it, in `out`, if anything comes there. `words` is the length
 // of the array that the step names. No hop is asked for, as it has places, which ranges don't depend on.
 #[inline(always)]
-pub fn transfer<'a>(
-    step: Step,
-    way: Way,
-    words: u32,
-    from: &[i64],
-    out: &'a mut [i64],
-) -> Option<&'a [i64]>
+pub fn transfer(step: Step, way: Way, words: u32, from: &[i64], out: &mut [i64]) -> Option<()>
     requires { length out.old ≡ length from.now }
-    ensures made { at_in result ≡ makes words way step (box_of from.now) }
-    ensures long { IfSome result (λ r. length r.now ≡ length from.now) }
+    ensures { at_of result out.new ≡ makes words way step (box_of from.now) }
 {
     out.copy_from_slice(from);
     match way {
-        Way::Jump => jump(step, out)?,
-        Way::Next => go_on(step, words, out)?,
+        Way::Jump => jump(step, out),
+        Way::Next => go_on(step, words, out),
     }
-    Some(out)
 }

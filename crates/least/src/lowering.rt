@@ -67,7 +67,7 @@ fn lower_hop(
     requires here { hop.from.0 ≤ counts.steps }
     requires there { hop.to.0 ≤ counts.steps }
 {
-    let Some(made) = fixpoint::make(guess, counts, hop, words, made) else {
+    let Some(()) = fixpoint::make(guess, counts, hop, words, made) else {
         return false;
     };
     let number = fixpoint::hop_number(hop);

@@ -50,10 +50,10 @@ fn check_hop(table: &[i64], vars: usize, hop: Hop, words: u32, out: &mut [i64]) 
     if !is_known(row) {
         return Ok(());
     }
-    let Some(made) = interval::transfer(hop.step, hop.way, words, &row[1..], out) else {
+    let Some(()) = interval::transfer(hop.step, hop.way, words, &row[1..], out) else {
         return Ok(());
     };
-    covered(made, row_of(table, vars, hop.to.0)).map_err(|miss| Fault::NotCarried(
+    covered(out, row_of(table, vars, hop.to.0)).map_err(|miss| Fault::NotCarried(
         hop.from, hop.to, miss,
     ))
 }

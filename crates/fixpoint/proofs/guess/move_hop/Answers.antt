@@ -14,7 +14,7 @@ returns-in_default c =
     let s = table_in k c.args.table.now in
     let to = c.args.hop.to.0 in
     let grown = after c.args.words c.args.hop.way c.args.hop.step (at s c.args.hop.from.0) in
-    nothing_moved k to c.args.table.now _ (ap (λ a. moved_at (at m to) a grown (at s to)) (sym c.in_default.ensures.made) ∙ no_made (at m to) grown (at s to))
+    nothing_moved k to c.args.table.now _ (ap (λ a. moved_at (at m to) a grown (at s to)) (sym c.in_default.ensures) ∙ no_made (at m to) grown (at s to))
 
 pub returns-in_default-make : goal.returns-in_default-make
 returns-in_default-make c =
@@ -23,16 +23,7 @@ returns-in_default-make c =
     let s = table_in k c.args.table.now in
     let to = c.args.hop.to.0 in
     let made = after c.args.words c.args.hop.way c.args.hop.step (at m c.args.hop.from.0) in
-    nothing_moved k to c.args.table.now _ (ap (λ a. moved_at (at m to) made a (at s to)) (sym c.in_default-make.ensures.made) ∙ no_grown (at m to) made (at s to))
-
-pub move_place-requires : goal.move_place-requires
-move_place-requires c = record {
-  long = c.requires.long;
-  place = c.requires.there;
-  guess = c.requires.guess;
-  made = c.in-Some.ensures.long;
-  grown = c.in-Some-make.ensures.long;
-}
+    nothing_moved k to c.args.table.now _ (ap (λ a. moved_at (at m to) made a (at s to)) (sym c.in_default-make.ensures) ∙ no_grown (at m to) made (at s to))
 
 pub returns : goal.returns
 returns c =
@@ -40,4 +31,4 @@ returns c =
     let m = table_in k c.args.guess.now in
     let s = table_in k c.args.table.now in
     let to = c.args.hop.to.0 in
-    subst (λ a. Moved k to a c.args.table.now c.move_place.new.table c.move_place.result) (ap₂ (λ a b. moved_at (at m to) a b (at s to)) c.in-Some.ensures.made c.in-Some-make.ensures.made) c.move_place.ensures
+    subst (λ a. Moved k to a c.args.table.now c.move_place.new.table c.move_place.result) (ap₂ (λ a b. moved_at (at m to) a b (at s to)) c.in-Some.ensures c.in-Some-make.ensures) c.move_place.ensures

@@ -20,7 +20,7 @@ returns-in_default c =
     let row = c.row_of-row.result.now in
     let some : 0 < length row = omega (arith, c.row_of-row.ensures.long) in
     let found = hop_known c.args.words c.args.vars c.args.table.now h row c.row_of-row.ensures.row some (sym c.is_known.ensures ∙ c.if-not-is_known.false) in
-    sym (ap unless (found ∙ ap (λ a. option_map (NotCarried h.from h.to) (missed a (place_in c.args.vars c.args.table.now h.to.0))) (sym c.in_default.ensures.made)))
+    sym (ap unless (found ∙ ap (λ a. option_map (NotCarried h.from h.to) (missed a (place_in c.args.vars c.args.table.now h.to.0))) (sym c.in_default.ensures)))
 
 pub returns : goal.returns
 returns c =
@@ -28,6 +28,6 @@ returns c =
     let row = c.row_of-row.result.now in
     let some : 0 < length row = omega (arith, c.row_of-row.ensures.long) in
     let found = hop_known c.args.words c.args.vars c.args.table.now h row c.row_of-row.ensures.row some (sym c.is_known.ensures ∙ c.if-not-is_known.false) in
-    mapped (NotCarried h.from h.to) c.covered.result c.map_err.result (λ h. search rules) (λ e h. search rules) _ (c.covered.ensures ∙ ap (λ a. unless (missed (within (box_of c.in-Some.made.now)) a)) (ap place_of c.row_of.ensures.row))
-    ∙ ap (λ a. unless (option_map (NotCarried h.from h.to) (missed a (place_in c.args.vars c.args.table.now h.to.0)))) c.in-Some.ensures.made
+    mapped (NotCarried h.from h.to) c.covered.result c.map_err.result (λ h. search rules) (λ e h. search rules) _ (c.covered.ensures ∙ ap (λ a. unless (missed (within (box_of c.transfer.new.out)) a)) (ap place_of c.row_of.ensures.row))
+    ∙ ap (λ a. unless (option_map (NotCarried h.from h.to) (missed a (place_in c.args.vars c.args.table.now h.to.0)))) c.in-Some.ensures
     ∙ sym (ap unless found)
