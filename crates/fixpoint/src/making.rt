@@ -11,7 +11,8 @@ use interval::Way;
 use program::Counts;
 use table::Hop;
 
-// The number of a hop, from 1 on: what lent numbers can note of it.
+// The number of a hop, from 1 on: what lent numbers can note of it. The `as` is proved to lose nothing, so a `try_from`
+// would be no plainer.
 pub fn hop_number(hop: Hop) -> i64
     requires { hop.from.0 < 2 ^ 61 }
 {

@@ -2,7 +2,7 @@
 
 ghost use Rattle.std.specs.Prelude.{◌≡◌, length};
 
-// How many ends the guess widens.
+// How many ends the guess widens. The `as` is proved to lose nothing, so a `try_from` would be no plainer.
 pub(crate) fn widened(table: &[i64], guess: &[i64]) -> u64
     requires { length guess.now ≡ length table.now }
 {

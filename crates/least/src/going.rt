@@ -23,7 +23,7 @@ fn guess_ahead(program: &Program, table: &mut [i64], notes: &[i64], work: &mut [
 {
     let (guess, rest) = work.split_at_mut(table.len());
     let guessed = propose(program, table, notes, guess, rest);
-    if guessed.yes {
+    if guessed.after.is_some() {
         take_over(table, program.counts(), guess);
     }
     guessed
@@ -31,10 +31,10 @@ fn guess_ahead(program: &Program, table: &mut [i64], notes: &[i64], work: &mut [
 
 // How many plain rounds come before the next guess: one that was not confirmed at the first try waits as long as it took.
 fn wait_after(guessed: Guessed) -> u64 {
-    if guessed.first {
-        return PLAIN;
+    match guessed.after {
+        Some(0) => PLAIN,
+        _ => guessed.sweeps.max(PLAIN),
     }
-    guessed.sweeps.max(PLAIN)
 }
 
 // Finds the least table; the answer is how many sweeps that took.

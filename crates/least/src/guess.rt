@@ -1,6 +1,6 @@
 // A guess at a table to which rounds would come much later, and whether it is confirmed.
 
-ghost use Rattle.std.specs.Prelude.{◌≡◌, ◌+◌, ◌*◌, ◌≤◌, length};
+ghost use Rattle.std.specs.Prelude.{◌≡◌, ◌+◌, ◌*◌, ◌≤◌, length, is_some};
 ghost use Rattle.program.specs.Program.{counts_of};
 ghost use Rattle.table.specs.Rows.{wants};
 ghost use Rattle.fixpoint.specs.Joining.{table_in};
@@ -11,12 +11,11 @@ use crate::lowering::lower;
 use crate::raising::raise;
 use program::Program;
 
-// What came of a guess: whether it was confirmed, whether that was so at the first try, and the sweeps that it took. They count
-// either way, and the first try counts only where it was confirmed, so this is no Option of them.
+// What came of a guess: after how many tries that failed it was confirmed, if it was, and the sweeps that it took. These count
+// either way, so they don't go into the Option.
 #[derive(Clone, Copy)]
 pub(crate) struct Guessed {
-    pub(crate) yes: bool,
-    pub(crate) first: bool,
+    pub(crate) after: Option<usize>,
     pub(crate) sweeps: u64,
 }
 
@@ -38,12 +37,11 @@ fn settle(
     requires moved { length moved.old ≡ wants (counts_of program.now) }
     requires made { length made.old ≡ 2 * program.now.vars }
     requires grown { length grown.old ≡ 2 * program.now.vars }
-    ensures { Tried program.now (table_in (counts_of program.now) table.now) (table_in (counts_of program.now) guess.new) result.yes result.sweeps }
+    ensures { Tried program.now (table_in (counts_of program.now) table.now) (table_in (counts_of program.now) guess.new) (is_some result.after) result.sweeps }
 {
     let mut sweeps = 0u64;
-    let mut first = true;
-    // as many tries as there are ends: a bound, and no index
-    for _ in 0..table.len() {
+    // each try takes an end out, so there are no more of them
+    for failed in 0..table.len() {
         sweeps = sweeps.saturating_add(lower(program, guess, table, notes, made));
         let ends = widened(table, guess);
         if ends == 0 {
@@ -53,17 +51,14 @@ fn settle(
         sweeps = sweeps.saturating_add(tried.sweeps);
         if tried.yes {
             return Guessed {
-                yes: true,
-                first,
+                after: Some(failed),
                 sweeps,
             };
         }
-        first = false;
         drop_unmoved(table, guess, notes, moved);
     }
     Guessed {
-        yes: false,
-        first: false,
+        after: None,
         sweeps,
     }
 }
@@ -80,7 +75,7 @@ pub(crate) fn propose(
     requires notes { length notes.now ≡ wants (counts_of program.now) }
     requires guess { length guess.old ≡ wants (counts_of program.now) }
     requires room { 2 * wants (counts_of program.now) + 256 ≤ length work.old }
-    ensures { Tried program.now (table_in (counts_of program.now) table.now) (table_in (counts_of program.now) guess.new) result.yes result.sweeps }
+    ensures { Tried program.now (table_in (counts_of program.now) table.now) (table_in (counts_of program.now) guess.new) (is_some result.after) result.sweeps }
 {
     let counts = program.counts();
     let (active, rest) = work.split_at_mut(table.len());

@@ -15,7 +15,7 @@ pub(crate) struct Layout<'a> {
 }
 
 impl<'a> Layout<'a> {
-    // Where the array has an index, if it is one, which is tested unless it is sure.
+    // Where the array has an index, if it is one, which is tested unless it is sure. A `try_from` would test it in any case.
     fn cell(&self, sure: bool, a: Array, i: i64) -> Option<usize>
         requires { Stands self.now.rows.now self.now.starts.now sure a.0 i }
         ensures { result ≡ (if index_of (words_at self.now.rows.now a.0) i then Some (start_at self.now.starts.now a.0 + index i) else None) }

@@ -48,6 +48,7 @@ pub fn mark_steps(program: &Program, table: &[i64], marks: &mut [i64])
     ensures { (t : Table) → Full program.now t → row_t program.now.vars t ≡ table.now → marks.new ≡ marks_from program.now t 0 (first (counts_of program.now)) program.now.code }
 {
     let counts = program.counts();
+    // where rows begin, as `program::offsets` has them, which has no room here to write them to
     let mut at = 3 + counts.arrays;
     for (place, step) in program.steps() {
         let sure = table::licensed(program.rows(), table, counts.vars, place, step);

@@ -2,7 +2,6 @@ use Rattle.std.proofs.Common.{false, sym, ap, ◌∙◌, subst, arith}
 use Rattle.std.specs.List.{AllByRecursion}
 use Rattle.program.specs.Program.{counts_of}
 use Rattle.program.specs.Rows.{row_p}
-use Rattle.program.proofs.Whole.{few_vars, few_steps}
 use Rattle.table.specs.Hops.{through, IsHop}
 use Rattle.table.proofs.Nothing.{nth-ok_i}
 use Rattle.table.proofs.Hopping.{hops_are}

@@ -1,7 +1,5 @@
 use Rattle.std.proofs.Common.{sym, ◌∙◌, subst, arith}
 use Rattle.std.specs.List.{AllByRecursion}
-use Rattle.program.specs.Rows.{row_p}
-use Rattle.program.proofs.Whole.{few_vars, few_steps}
 use Rattle.table.specs.Hops.{IsHop}
 use Rattle.table.proofs.Hopping.{hops_are}
 use Rattle.least.proofs.lowering.lower_sweep.Goals as goal

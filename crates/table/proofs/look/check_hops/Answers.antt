@@ -1,8 +1,6 @@
 use Rattle.std.proofs.Common.{◌+◌, ◌*◌, ◌≤◌, length, Err, sym, ap, ◌∙◌, subst, ap₂, arith}
 use Rattle.std.specs.List.{AllByRecursion}
 use Rattle.std.proofs.lemmas.Result.{err_from_is_err_and}
-use Rattle.program.specs.Rows.{row_p}
-use Rattle.program.proofs.Whole.{few_vars}
 use Rattle.table.specs.Hops.{IsHop}
 use Rattle.table.specs.Rows.{width}
 use Rattle.table.specs.Looking.{or_else, hop_fault, unless}
