@@ -71,7 +71,7 @@ def points(sources):
         ("1 an error handed on by hand", by_pattern(sources, r"Err\(\w*\) => (return )?(Err\(|\{\s*return Err)|if \w+\.is_some\(\) \{\s*return|Some\(\w+\) => Some\(|Ok\(\(\)\) => Ok\(\(\)\)|Ok\(\w+\) => Ok\(")),
         ("3 loops by index or by hand", by_pattern(sources, r"^ *(while .*|loop \{|for \w+ in \d+\.\..*)$")),
         ("3 counters by hand", by_pattern(sources, r"^ *\w+ [+-]= 1;$|^ *n \+= 1;$")),
-        ("4 comparisons and conversions by hand", by_pattern(sources, r"fn (less|least|most|negative|narrow|fitting|eq|cmp)\b|\bas (usize|u64|i64|i128)\b")),
+        ("4 comparisons and conversions by hand", by_pattern(sources, r"fn (less|least|most|negative|narrow|fitting|eq|cmp)\b|\bas (usize|u32|u64|i64|i128)\b")),
         ("5 rows with counts", together(sources, ["rows", "counts"])),
         ("5 a table with counts", together(sources, ["table", "counts"])),
         ("5 a step with its way", together(sources, ["step", "way"])),

@@ -1,4 +1,5 @@
-// Reading and writing arrays.
+// Reading and writing arrays. What the three functions ask is a record, `Stands`, named by each: it is of an index too, so no
+// invariant of the layout.
 
 ghost use Rattle.std.specs.Prelude.{◌≡◌, ◌+◌, ◌≤◌, length, pos, if◌then◌else◌, Some, None, slice_index_or, slice_set};
 ghost use Rattle.std.specs.Option.{option_map};

@@ -220,6 +220,7 @@ fn write_offsets(program: &Program, work: &mut [i64])
     ensures rest { drop (length program.now.code) work.new ≡ drop (length program.now.code) work.old }
 {
     // Where rows begin is wanted here and for marks alone: steps that gave it would be no plainer in the other loops.
+    // The `as` is proved to lose nothing, so neither would a `try_from` be.
     let mut at = 3 + program.counts().arrays;
     for (Place(k), step) in program.steps() {
         work[k] = at as i64;

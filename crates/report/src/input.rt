@@ -1,4 +1,5 @@
-// Texts from outside, and how large they may be.
+// Texts from outside, and how large they may be. Each function promises that it wrote no more than there was room for: all that
+// can be said of what comes from outside.
 
 ghost use Rattle.std.specs.Prelude.{◌≤◌, length, IfOk};
 

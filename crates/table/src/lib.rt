@@ -1,4 +1,6 @@
 // Tables of ranges for all places, whether they hold, and which tests they license.
+//
+// A table is a slice beside its counts, and functions ask that a row lies in it: `fixpoint` says why.
 #![tactic(auto)]
 
 mod fault;

@@ -58,6 +58,7 @@ fn check_hop(table: &[i64], vars: usize, hop: Hop, words: u32, out: &mut [i64]) 
     ))
 }
 
+// The `as` is proved to lose nothing, so a `try_from` would be no plainer.
 fn length_of(rows: &[i64], array: Array) -> u32
     ensures few { result ≤ 65536 }
     ensures length { (p : Prog) → Reads rows.now p → array.0 < length p.arrays → result ≡ slice_index p.arrays array.0 }
