@@ -19,14 +19,37 @@ parts = record { one_program = one_program; offsets_begin = offsets_begin }
 abbrev pub found : List ℤ → Result Counts Refusal
 found s = and_then (decode s) (λ p. Ok (counts_of p))
 
--- counts that were found are those of the program that the rows are
+-- counts of the program that the rows are
+pub known : (s : List ℤ) (p : Prog) (c : Counts) → Program s p → c ≡ counts_of p → Program s (program_in s) × (c ≡ counts_of (program_in s))
+known s p c is e =
+    let same : p ≡ program_in s = sym (ap (λ r. result_unwrap_or r nothing) (decode_reads s p is)) in
+    (subst (Program s) same is, e ∙ ap counts_of same)
+
+-- the counts that stand before the steps are such
+pub counts_known : (s : List ℤ) (p : Prog) → Program s p → counts_in s ≡ Ok (counts_of p)
+counts_known s p is = go (head_in s) refl (decode_reads s p is)
+  where
+    code_in : Head → List Step → Prog
+    code_in h is = record { vars = h.vars; arrays = h.arrays; code = is }
+
+    ends : (h : Head) (is : List Step) (b : Bool) (end : ℕ) → length is ≡ h.steps → cond b (Ok (code_in h is)) (refused end Extra) ≡ Ok p → head_counts h ≡ counts_of p
+    ends h is true end l e = ap (λ n. counts_by h.vars h.arrays n) (sym l) ∙ ap counts_of (ok_same {E = Refusal} _ _ e)
+    ends h is false end l e = absurd (err_not_ok _ p e)
+
+    steps : (h : Head) (d : Result (List Step) Refusal) → steps_at (head_counts h) s (first (head_counts h)) h.steps ≡ d → and_then d (λ is. ended s (first (head_counts h) + widths is) (code_in h is)) ≡ Ok p → head_counts h ≡ counts_of p
+    steps h (Ok is) q e = ends h is (eqb (first (head_counts h) + widths is) (length s)) (first (head_counts h) + widths is) (steps_at_was (head_counts h) h.steps s (first (head_counts h)) is q).0 e
+    steps h (Err f) q e = absurd (err_not_ok f p e)
+
+    go : (d : Result Head Refusal) → head_in s ≡ d → and_then d (λ h. and_then (steps_at (head_counts h) s (first (head_counts h)) h.steps) (λ is. ended s (first (head_counts h) + widths is) (code_in h is))) ≡ Ok p → and_then d (λ h. Ok (head_counts h)) ≡ Ok (counts_of p)
+    go (Ok h) q e = ap Ok (steps h (steps_at (head_counts h) s (first (head_counts h)) h.steps) refl e)
+    go (Err f) q e = absurd (err_not_ok f p e)
+
+-- counts that were found are such
 pub found_ok : (s : List ℤ) (c : Counts) → Ok c ≡ found s → Program s (program_in s) × (c ≡ counts_of (program_in s))
 found_ok s c e = go (decode s) refl e
   where
     go : (d : Result Prog Refusal) → decode s ≡ d → Ok c ≡ and_then d (λ p. Ok (counts_of p)) → Program s (program_in s) × (c ≡ counts_of (program_in s))
-    go (Ok p) q e =
-        let same : p ≡ program_in s = sym (ap (λ r. result_unwrap_or r nothing) q) in
-        (decode_was s (program_in s) (q ∙ ap Ok same), ok_same {E = Refusal} _ _ e ∙ ap counts_of same)
+    go (Ok p) q e = known s p c (decode_was s p q) (ok_same {E = Refusal} _ _ e)
     go (Err f) q e = absurd (err_not_ok f c (sym e))
 
 -- a refusal

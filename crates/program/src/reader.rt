@@ -171,7 +171,7 @@ fn words(rows: &[i64], arrays: usize) -> Result<usize, Refusal>
 }
 
 // What stands before the steps.
-fn header(rows: &[i64]) -> Result<Counts, Refusal>
+pub(crate) fn header(rows: &[i64]) -> Result<Counts, Refusal>
     ensures { result ≡ counts_in rows.now }
 {
     let vars = index(rows, 0, Field::Variables)?;

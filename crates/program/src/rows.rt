@@ -2,11 +2,11 @@
 
 ghost use Rattle.std.specs.Prelude.{◌≡◌, length};
 ghost use Rattle.std.specs.Iterator.{at_most};
-ghost use Rattle.program.specs.Program.{counts_of};
+ghost use Rattle.program.specs.Program.{Prog, counts_of};
 ghost use Rattle.program.specs.Rows.{Program as Reads, IsProgram, nats};
 ghost use Rattle.program.specs.Reading.{GivesStep};
 
-use crate::reader::{Counts, step_at};
+use crate::reader::{Counts, header, step_at};
 use crate::step::{Place, Step};
 use std::marker::Model;
 
@@ -31,6 +31,27 @@ impl<'a> Model for Program<'a> {
 }
 
 impl<'a> Program<'a> {
+    // The program of rows that are known to be one, with its counts; they are not looked at. `read` is for rows of which
+    // that isn't known.
+    pub fn known(rows: &'a [i64], counts: Counts) -> Program<'a>
+        requires { (p : Prog) × Reads rows.now p × (counts ≡ counts_of p) }
+        ensures rows { Reads rows.now result }
+        ensures counts { counts ≡ counts_of result }
+    {
+        Program { rows, counts }
+    }
+
+    // The same where the counts aren't at hand: only what stands before the steps is looked at.
+    pub fn of(rows: &'a [i64]) -> Program<'a>
+        requires { (p : Prog) × Reads rows.now p }
+        ensures { Reads rows.now result }
+    {
+        match header(rows) {
+            Ok(counts) => Program::known(rows, counts),
+            Err(_) => unreachable!(),
+        }
+    }
+
     pub fn rows(&self) -> &'a [i64]
         ensures { Reads result.now self.now }
     {
