@@ -31,9 +31,9 @@ fn called(
     let mut rows = vec![in heap; 0i64; 64]?;
     let mut numbers = vec![in heap; 0i64; 64]?;
     let mut lent = vec![in heap; 77i64; work]?;
-    let program = report::load_numbers(program.as_bytes(), &mut rows)?;
-    let table = report::load_numbers(table.as_bytes(), &mut numbers)?;
-    let ran = interpreter::run(program, table, &[], steps, shown, &mut lent);
+    let n = report::load_numbers(program.as_bytes(), &mut rows)?;
+    let m = report::load_numbers(table.as_bytes(), &mut numbers)?;
+    let ran = interpreter::run(&rows[..n], &numbers[..m], &[], steps, shown, &mut lent);
     Ok(in_words(heap, ran)?)
 }
 
@@ -168,7 +168,10 @@ fn check_wants(
     wanted: usize,
 ) -> Result<(), Fail> {
     let mut rows = vec![in heap; 0i64; 64]?;
-    let Ok(read) = report::load_program(program.as_bytes(), &mut rows) else {
+    let Ok(n) = report::load_program(program.as_bytes(), &mut rows) else {
+        return Err(Fail::new("no program"));
+    };
+    let Ok(read) = program::read(&rows[..n]) else {
         return Err(Fail::new("no program"));
     };
     assert_eq!(rt; interpreter::wants(read.counts()), wanted);

@@ -10,9 +10,9 @@ use std::test::Fail;
 fn checked(heap: Global, program: &str, table: &str) -> Result<String, Error> {
     let mut rows = vec![in heap; 0i64; report::NUMBERS]?;
     let mut numbers = vec![in heap; 0i64; report::TABLE]?;
-    let program = report::load_program(program.as_bytes(), &mut rows)?;
-    let table = report::load_table(table.as_bytes(), program.rows(), &mut numbers)?;
-    report::licence_text(heap, program.rows(), table)
+    let n = report::load_program(program.as_bytes(), &mut rows)?;
+    let m = report::load_table(table.as_bytes(), &rows[..n], &mut numbers)?;
+    report::licence_text(heap, &rows[..n], &numbers[..m])
 }
 
 pub(crate) fn answer(heap: Global, program: &str, table: &str) -> Result<String, AllocError> {

@@ -2,19 +2,21 @@
 
 use crate::printing::print;
 use message::Error;
-use program::Counts;
 use std::alloc::{AllocError, Global};
 use std::process::Abort;
 use std::test::Fail;
 
 // The table of a program that knows nothing.
-fn knowing_nothing(heap: Global, counts: Counts) -> Result<Vec<i64>, AllocError> {
+fn knowing_nothing(heap: Global, rows: &[i64]) -> Result<Vec<i64>, AllocError> {
     let mut table = Vec::new(heap);
-    for _ in 0..=counts.steps {
-        table.push(1)?;
-        for _ in 0..counts.vars {
-            table.push(i64::MIN)?;
-            table.push(i64::MAX)?;
+    if let Ok(program) = program::read(rows) {
+        let counts = program.counts();
+        for _ in 0..=counts.steps {
+            table.push(1)?;
+            for _ in 0..counts.vars {
+                table.push(i64::MIN)?;
+                table.push(i64::MAX)?;
+            }
         }
     }
     Ok(table)
@@ -31,8 +33,16 @@ fn run_lines(
     let mut numbers = vec![in heap; 77i64; report::SHOWN]?;
     let mut shown = vec![in heap; 77i64; report::SHOWN]?;
     let mut work = vec![in heap; 77i64; report::WORK]?;
-    let asked = report::load_numbers(asked.as_bytes(), &mut numbers)?;
-    transcript::run_text(heap, rows, table, asked, steps, &mut shown, &mut work)
+    let n = report::load_numbers(asked.as_bytes(), &mut numbers)?;
+    transcript::run_text(
+        heap,
+        rows,
+        table,
+        &numbers[..n],
+        steps,
+        &mut shown,
+        &mut work,
+    )
 }
 
 fn printed(
@@ -44,17 +54,17 @@ fn printed(
 ) -> Result<String, Error> {
     let mut rows = vec![in heap; 0i64; report::NUMBERS]?;
     let mut numbers = vec![in heap; 0i64; report::TABLE]?;
-    let program = report::load_program(program.as_bytes(), &mut rows)?;
-    let table = report::load_table(table.as_bytes(), program.rows(), &mut numbers)?;
-    run_lines(heap, program.rows(), table, asked, steps)
+    let n = report::load_program(program.as_bytes(), &mut rows)?;
+    let m = report::load_table(table.as_bytes(), &rows[..n], &mut numbers)?;
+    run_lines(heap, &rows[..n], &numbers[..m], asked, steps)
 }
 
 // With a table that knows nothing.
 fn printed_open(heap: Global, program: &str, asked: &str, steps: u32) -> Result<String, Error> {
     let mut rows = vec![in heap; 0i64; report::NUMBERS]?;
-    let program = report::load_program(program.as_bytes(), &mut rows)?;
-    let table = knowing_nothing(heap, program.counts())?;
-    run_lines(heap, program.rows(), &table, asked, steps)
+    let n = report::load_program(program.as_bytes(), &mut rows)?;
+    let table = knowing_nothing(heap, &rows[..n])?;
+    run_lines(heap, &rows[..n], &table, asked, steps)
 }
 
 // What is handed in, how many steps at most, the answer up to the number of tests done, and this number with the table, and
@@ -618,11 +628,9 @@ fn refusals(rt: HostRuntime) -> Result<(), Fail> {
 fn loaded(heap: Global, text: &str, of: &str, room: usize) -> Result<String, Error> {
     let mut numbers = vec![in heap; 0i64; room]?;
     let n = match of {
-        "program" => report::load_program(text.as_bytes(), &mut numbers)?
-            .rows()
-            .len(),
-        "table" => report::load_table(text.as_bytes(), &[1, 0, 0], &mut numbers)?.len(),
-        _ => report::load_numbers(text.as_bytes(), &mut numbers)?.len(),
+        "program" => report::load_program(text.as_bytes(), &mut numbers)?,
+        "table" => report::load_table(text.as_bytes(), &[1, 0, 0], &mut numbers)?,
+        _ => report::load_numbers(text.as_bytes(), &mut numbers)?,
     };
     Ok(format!(in heap; "{n}")?)
 }

@@ -87,24 +87,22 @@ fn run(rt: &HostRuntime, program: String, table: String, steps: u32) -> Result<S
     let mut rows = vec![in heap; 0i64; report::NUMBERS]?;
     let mut numbers = vec![in heap; 0i64; report::TABLE]?;
     let mut asked = vec![in heap; 0i64; report::SHOWN]?;
-    let program = report::load_program(
-        report::read_text(rt, Some(program), &mut text)?,
-        &mut rows,
-    )?;
-    let table = report::load_table(
+    let n = report::load_program(report::read_text(rt, Some(program), &mut text)?, &mut rows)?;
+    let rows = &rows[..n];
+    let m = report::load_table(
         report::read_text(rt, Some(table), &mut text)?,
-        program.rows(),
+        rows,
         &mut numbers,
     )?;
-    let asked = report::load_numbers(report::read_text(rt, None, &mut text)?, &mut asked)?;
+    let k = report::load_numbers(report::read_text(rt, None, &mut text)?, &mut asked)?;
     drop(text);
     let mut shown = vec![in heap; 0i64; report::SHOWN]?;
     let mut work = vec![in heap; 0i64; report::WORK]?;
     transcript::run_text(
         heap,
-        program.rows(),
-        table,
-        asked,
+        rows,
+        &numbers[..m],
+        &asked[..k],
         steps,
         &mut shown,
         &mut work,

@@ -1,13 +1,11 @@
 // Programs, tables and numbers from their texts.
 
 ghost use Rattle.std.specs.Prelude.{◌≡◌, ◌≤◌, length, IfOk};
-ghost use Rattle.program.specs.Rows.{row_p};
 ghost use Rattle.text.specs.Numbers.{reading};
 ghost use Rattle.report.specs.Loading.{in_hand, LoadProgramSays, LoadTableSays, LoadNumbersSays};
 
 use crate::check::explained;
 use message::Error;
-use program::Program;
 use text::Refusal;
 
 // The numbers of a text, in front of `numbers`.
@@ -19,29 +17,32 @@ pub(crate) fn numbers_in<'a>(text: &[u8], numbers: &'a mut [i64]) -> Result<&'a 
     Ok(&numbers[..n])
 }
 
-// The program whose rows a text has; `rows` is lent for them.
-pub fn load_program<'a>(text: &[u8], rows: &'a mut [i64]) -> Result<Program<'a>, Error>
-    ensures few { IfOk result (λ p. length (row_p p) ≤ length rows.old) }
-    ensures says { LoadProgramSays text.now (length rows.old) result }
+// Puts the rows of a program in front of `rows`, and says how many there are. The answer here and below is no part of what is lent:
+// what the whole of it holds could then be said, but only a proof by hand would show it.
+pub fn load_program(text: &[u8], rows: &mut [i64]) -> Result<usize, Error>
+    ensures few { IfOk result (λ n. n ≤ length rows.old) }
+    ensures says { LoadProgramSays text.now (length rows.old) rows.new result }
 {
-    let rows = numbers_in(text, rows).map_err(Error::ProgramText)?;
-    program::read(rows).map_err(|why| Error::Unread(why, text::position(text, why.at)))
+    let n = text::read(text, rows).map_err(Error::ProgramText)?;
+    program::read(&rows[..n]).map_err(|why| Error::Unread(why, text::position(text, why.at)))?;
+    Ok(n)
 }
 
-// The numbers of a table that holds for the program, in front of `numbers`.
-pub fn load_table<'a>(text: &[u8], rows: &[i64], numbers: &'a mut [i64]) -> Result<&'a [i64], Error>
-    ensures few { IfOk result (λ l. length l.now ≤ length numbers.old) }
-    ensures says { LoadTableSays text.now rows.now (length numbers.old) result }
+// Puts the numbers of a table that holds for the program in front of `numbers`, and says how many there are.
+pub fn load_table(text: &[u8], rows: &[i64], numbers: &mut [i64]) -> Result<usize, Error>
+    ensures few { IfOk result (λ n. n ≤ length numbers.old) }
+    ensures says { LoadTableSays text.now rows.now (length numbers.old) numbers.new result }
 {
-    let table = numbers_in(text, numbers).map_err(Error::TableText)?;
+    let n = text::read(text, numbers).map_err(Error::TableText)?;
+    let table = &numbers[..n];
     table::check(rows, table).map_err(|why| explained(None, Some(text), rows, table, why))?;
-    Ok(table)
+    Ok(n)
 }
 
-// The numbers that are handed in, in front of `numbers`.
-pub fn load_numbers<'a>(text: &[u8], numbers: &'a mut [i64]) -> Result<&'a [i64], Error>
-    ensures few { IfOk result (λ l. length l.now ≤ length numbers.old) }
-    ensures says { LoadNumbersSays text.now (length numbers.old) result }
+// Puts the numbers that are handed in in front of `numbers`, and says how many there are.
+pub fn load_numbers(text: &[u8], numbers: &mut [i64]) -> Result<usize, Error>
+    ensures few { IfOk result (λ n. n ≤ length numbers.old) }
+    ensures says { LoadNumbersSays text.now (length numbers.old) numbers.new result }
 {
-    numbers_in(text, numbers).map_err(Error::NumbersText)
+    text::read(text, numbers).map_err(Error::NumbersText)
 }
