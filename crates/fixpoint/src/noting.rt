@@ -19,10 +19,12 @@ fn note_range(notes: &mut [i64], x: Var, r: Range, made: Range, hop: i64) {
     interval::set_range(notes, x, last);
 }
 
+// One box is gone over, and the other's ranges are taken by their variables: with 64 of these, a find with both zipped took a
+// quarter longer.
 fn note_box(notes: &mut [i64], numbers: &[i64], made: &[i64], hop: i64) {
-    let sides = interval::ranges(numbers).zip(interval::ranges(made));
-    for (k, (r, q)) in sides.enumerate() {
-        note_range(notes, Var(k), r, q, hop);
+    for (k, q) in interval::ranges(made).enumerate() {
+        let x = Var(k);
+        note_range(notes, x, interval::range_at(numbers, x), q, hop);
     }
 }
 

@@ -23,11 +23,13 @@ fn lower_range(guess: &mut [i64], x: Var, back: Range, note: Range, hop: i64) ->
     r != was
 }
 
+// By the ranges of one box, as where hops are noted.
 fn lower_box(guess: &mut [i64], table: &[i64], made: &[i64], notes: &[i64], hop: i64) -> bool {
     let mut changed = false;
-    let sides = interval::ranges(made).zip(interval::ranges(notes));
-    for (k, (t, (q, note))) in interval::ranges(table).zip(sides).enumerate() {
-        changed |= lower_range(guess, Var(k), t.join(q), note, hop);
+    for (k, q) in interval::ranges(made).enumerate() {
+        let x = Var(k);
+        let back = interval::range_at(table, x).join(q);
+        changed |= lower_range(guess, x, back, interval::range_at(notes, x), hop);
     }
     changed
 }
